@@ -573,7 +573,7 @@ pub global_stays : (text : Text) (before : Before) (kind : Kind) (is_const : Boo
     (declarator : Declarator) (first starts : ℕ → Option ℕ) →
     Stay first before.names before.objects starts →
     Stay first (global_behind text kind is_const declarator before).names (before.objects + 1)
-        starts
+    starts
 global_stays text before kind is_const declarator first starts h =
     let own = declarator.name.bytes in
     let fresh = global_of text before kind is_const declarator in

@@ -289,7 +289,7 @@ module _ (G : Ground) (frames : rows.Frames) (text : Text) (caller : ℕ) where
         1 ≤ cells_of (object_at around kind is_const declarator) →
         Runs G (Unit {0}) around (declaring_behind text kind is_const declarator around)
         (λ (first : ℕ). AreCells G.cells first
-          (cells_of (object_at around kind is_const declarator))
+        (cells_of (object_at around kind is_const declarator))
         (object_at around kind is_const declarator).ty)
         (core.taking (object_at around kind is_const declarator) [])
     taking_runs around kind is_const declarator below some =
@@ -349,7 +349,7 @@ module _ (G : Ground) (frames : rows.Frames) (text : Text) (caller : ℕ) where
         SitesFit G text caller ((declarator_walk text kind is_const declarator).sites around) →
         whole_declarator declarator ≡ true →
         Runs G (Unit {0}) around (declaring_behind text kind is_const declarator around)
-          (TreesFit G)
+        (TreesFit G)
         (statement.declared frames (typed_declarator text kind is_const declarator around))
     declared_runs around kind is_const declarator h sites whole =
         let object = object_at around kind is_const declarator in
@@ -398,7 +398,7 @@ module _ (G : Ground) (frames : rows.Frames) (text : Text) (caller : ℕ) where
         SitesFit G text caller ((walk_of_all kind is_const declarators).sites around) →
         all_whole (map whole_declarator declarators) ≡ true →
         Runs G (Unit {0}) around ((walk_of_all kind is_const declarators).behind around)
-          (TreesFit G)
+        (TreesFit G)
         (statement.declaration frames (typed_declarators text kind is_const declarators around))
     declarators_run around kind is_const [] h sites whole =
         runs_gives G around (TreesFit G) [] (λ g. tt)
@@ -410,7 +410,7 @@ module _ (G : Ground) (frames : rows.Frames) (text : Text) (caller : ℕ) where
         let own = whole_declarator declarator in
         let others = all_whole (map whole_declarator more) in
         let rest = statement.declaration frames
-          (typed_declarators text kind is_const more behind) in
+        (typed_declarators text kind is_const more behind) in
         runs_then G around behind last
         (λ before. core.then_by rest (λ after. core.gives (before ++ after)))
         (one_more around.objects) (declarators_rise behind kind is_const more)

@@ -351,7 +351,7 @@ module _ (G : Ground) (frames : rows.Frames) (text : Text) (caller : ℕ) (K : K
       around.objects ≤ mid.objects → mid.objects ≤ last.objects → RunsAt around mid a →
       RunsAt mid last b →
       RunsAt around last (core.then_by
-        (rows.used (rows.rows frames (typed_expression text around test)))
+      (rows.used (rows.rows frames (typed_expression text around test)))
       (λ v. core.then_by a (λ x. core.then_by b (λ y. core.gives (if_tree origin v x y)))))
   if_runs origin around mid last test {a = a} {b = b} h site whole le more first second =
       tested_runs around last test

@@ -148,7 +148,7 @@ globals_stay : (text : Text) (kind : Kind) (is_const : Bool) (declarators : List
 globals_stay text kind is_const [] before first starts h = h
 globals_stay text kind is_const (declarator ∷ more) before first starts h =
     globals_stay text kind is_const more (global_behind text kind is_const declarator before) first
-        starts
+    starts
     (global_stays text before kind is_const declarator first starts h)
 
 -- calls of a site come from the body in which it stands

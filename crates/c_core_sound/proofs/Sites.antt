@@ -130,7 +130,7 @@ module _ (G : Ground) (frames : rows.Frames) (text : Text) where
         SiteFits G text caller (record { around = around; act = evaluates Valued e }) →
         is_whole e ≡ true →
         GoodRule (world G around.names)
-          (rows.used (rows.rows frames (typed_expression text around e)))
+        (rows.used (rows.rows frames (typed_expression text around e)))
     value_rule around e fits site whole =
         let W = world G around.names in
         let r = reading text around.names e in

@@ -228,7 +228,7 @@ module _ (walks : (text : Text) (one : BlockItem) → (grown text one).walk ≡ 
       items_scope text more next (none_right (names ++ own) rest none)
       (and_right whole_one others whole)
       (globals_scope text kind is_const declaration.declarators mid
-        (and_left whole_one others whole)
+      (and_left whole_one others whole)
       (none_right names own (none_left (names ++ own) rest none))
       (enumeration_scope text front before f))
   items_scope text (item.Prototype specifiers declarator ∷ more) before none whole f =

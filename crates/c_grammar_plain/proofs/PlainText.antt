@@ -78,7 +78,7 @@ closes_keywords : (goes : Leaf → Bool) → Closes (keywords goes) (is_keyword 
 unfolding keywords
 closes_keywords goes = closes_shaped have_part
     (closes_many (is_keyword goes) _ {inner = no_token}
-        (closes_choice symbol_of closes_specifier_at)
+    (closes_choice symbol_of closes_specifier_at)
     (λ t e. refl) (λ t e. refl) (λ t e. e))
 
 closes_qualifiers : (goes : Leaf → Bool) → Closes (qualifiers goes) (is_no_type goes)

@@ -635,7 +635,7 @@ module _ (G : Grammar) (left : ℕ) (g : SpeltGrammar G left) (some : 0 < left) 
       (λ parts. at_place (λ x. refl) (λ x y e. ap (node.Typedef parts.0 parts.1) e))
   spelt_unit_item_at _ = spelt_any _ (spelt_node _
       (spelt_then (spelt_specifiers (enumeration G true) specifies
-        (spelt_enumeration G left g true))
+      (spelt_enumeration G left g true))
       (λ front. spelt_choice (λ s. s) (spelt_declared_at (is_listed front.enumeration))))
       declared_made)
 

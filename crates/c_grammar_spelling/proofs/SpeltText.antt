@@ -172,13 +172,13 @@ module _ (E : Form Leaf Enumeration) (class : Symbol → Bool) {left : ℕ}
       (spelt_skip (symbol.TypedefName t) (spelt_qualifiers None))
       (λ words. at_place (λ x. refl)
       (λ x y e. ap (λ place.
-        (record { kind = kind.TypedefName t; place = place } ∷ words, None)) e))
+      (record { kind = kind.TypedefName t; place = place } ∷ words, None)) e))
   spelt_declared_type_at (symbol.Terminal terminal.Enum) = spelt_node _
       (spelt_skip (symbol.Terminal terminal.Enum)
       (spelt_pair_by (spelt_behind c) (λ found. spelt_qualifiers (Some found))))
       (λ parts. at_place (λ x. refl)
       (λ x y e. ap (λ place.
-        (record { kind = kind.Enum; place = place } ∷ parts.1, Some parts.0)) e))
+      (record { kind = kind.Enum; place = place } ∷ parts.1, Some parts.0)) e))
   spelt_declared_type_at _ = spelt_nothing
 
   spelt_declared_type : {behind : Look} →

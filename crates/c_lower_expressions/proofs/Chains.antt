@@ -20,7 +20,7 @@ pub chained_from : (origin : ℕ) (left : Rule Valued) (rest : List (BinaryOpera
 chained_from origin left [] taken = refl
 chained_from origin left (link ∷ rest) taken =
     let more : Rule Valued = then_by left
-        (λ v. then_by (used link.1) (λ w. linked origin link.0 v w))
+    (λ v. then_by (used link.1) (λ w. linked origin link.0 v w))
     in
     let first : Rule Valued = gives (left taken).made in
     let behind : Rule Valued =
@@ -44,7 +44,7 @@ unfolding linked_to lowered
 linked_more origin frames usage left link rest taken =
     let more : Rule Valued =
     then_by (gives left)
-        (λ v. then_by (used (rows frames link.1)) (λ w. linked origin link.0 v w)) in
+    (λ v. then_by (used (rows frames link.1)) (λ w. linked origin link.0 v w)) in
     ap (λ (m : Made Valued). finished origin usage m.made m.taken)
     (chained_from origin more (map (link_rows frames) rest) taken)
 

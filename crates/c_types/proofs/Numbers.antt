@@ -361,7 +361,7 @@ merged_below n (Some declared.Tag) fresh initializes h new = new
 
 numbered_global : (text : Text) (kind : Kind) (is_const : Bool) (declarator : Declarator)
     (before : Before) → Numbered before → Numbered
-        (global_behind text kind is_const declarator before)
+    (global_behind text kind is_const declarator before)
 numbered_global text kind is_const declarator before h =
     let n = before.objects in
     let found = declared_as before.names declarator.name.bytes in

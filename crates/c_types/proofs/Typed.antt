@@ -17,7 +17,7 @@ pub typed_is : (unit : UnitTree) (globals : List Global) (functions : List Typed
     typed.names ≡ (text_from layout.first_cells globals functions).taken.names →
     typed.trees ≡ (text_from layout.first_cells globals functions).made →
     typed.ends ≡ ends_of functions → typed.main ≡ unit_main unit → typed.text_len ≡ unit.length →
-        IsTypedText unit typed
+    IsTypedText unit typed
 typed_is unit globals functions layout typed g f is cells names trees ends main length =
     let firsts = layout.first_cells in
     let own = unit_globals unit in

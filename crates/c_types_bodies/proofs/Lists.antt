@@ -74,14 +74,14 @@ declarators_step text kind is_const items i item typed new one around next whole
     one_is next_is so_far =
     let more = drop (i + 1) items in
     ap (λ (all : List TypedDeclarator). all ++ typed_declarators text kind is_const more next)
-        new_is
+    new_is
     ∙ append_assoc typed (one ∷ []) (typed_declarators text kind is_const more next)
     ∙ ap (λ (d : TypedDeclarator). typed ++ (d ∷ typed_declarators text kind is_const more next))
     one_is
     ∙ ap (λ (a : Around). typed ++ (typed_declarator text kind is_const item around
     ∷ typed_declarators text kind is_const more a)) next_is
     ∙ sym (ap (λ (rest : List Declarator). typed ++ typed_declarators text kind is_const rest
-        around)
+    around)
     (drop_at items i item less is))
     ∙ so_far
 

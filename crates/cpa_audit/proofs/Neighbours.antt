@@ -69,7 +69,7 @@ parts_joined cnf log w first m n p q some front back =
     let same : (first + m) + n ≡ first + (m + n) = omega arith in
     subst (λ k. IsLeastBadBetween cnf log (cut lines w first) (cut lines w k) (joined p q)) same
     (neighbours cnf log (cut lines w first) (cut lines w (first + m))
-        (cut lines w ((first + m) + n))
+    (cut lines w ((first + m) + n))
     p q (cuts_rise lines w first (first + m) some (omega arith))
     (cuts_rise lines w (first + m) ((first + m) + n) some (omega arith)) front back)
 

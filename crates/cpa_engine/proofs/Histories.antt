@@ -161,16 +161,16 @@ refined_begins cfa cs config s r path longer newest history search stands none b
       stands = stands;
       came = refined_came cfa cs config s r path longer search.came refuted row more;
       comes = by_refinement (position s) (position (refined_search s.checked r longer longest))
-        search.comes
+          search.comes
           begins;
       checked = begins_checked cfa begins.pivot longer s.reached r s.checked begins.begins
           search.checked;
     } in (
       subst (λ (ps : List Precision). IsSearch cfa cs config
-        (refined_search s.checked r ps history))
+          (refined_search s.checked r ps history))
           (sym is_new)
           (subst (λ (h : List Refined). IsSearch cfa cs config
-            (refined_search s.checked r longer h))
+          (refined_search s.checked r longer h))
           (sym is_more) is),
       none,
       fewer_rounds config.rounds (length history) (length s.history) (cond s.again 0 1) size more,

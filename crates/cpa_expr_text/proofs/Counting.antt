@@ -317,7 +317,7 @@ end_turn Z due place words none in_words has =
       λ yes.
           let all = eqb-true place (length words) yes in
           has.0 (subst (λ k. AreDue k here) (sym none)
-            (end.1 (nil_from_length here (omega arith)))),
+          (end.1 (nil_from_length here (omega arith)))),
       λ z.
           let empty = ap length (end.0 (subst (λ k. AreDue k here) none (has.1 z))) in
           let all : place ≡ length words = omega arith in

@@ -29,5 +29,5 @@ pub use laws::{
 pub use program::{Cell, MAX_CELLS, MAX_POINTS, Program, Stmt, Successor};
 pub use spelling::{Spell, push_list};
 pub use stacks::step_stack;
-pub use standing::{facts_that_stand, has_facts, same_fact};
+pub use standing::{facts_that_stand, has_facts, same_fact, same_sites};
 pub use states::State;

@@ -76,7 +76,7 @@ fn is_same(a: &Fact, b: &Fact) -> bool
 }
 
 /// Whether two stacks have the same sites in the same order.
-fn same_sites(a: &Seq<u32>, b: &Seq<u32>) -> bool
+pub fn same_sites(a: &Seq<u32>, b: &Seq<u32>) -> bool
     ensures { result ≡ same_sites a.now b.now }
 {
     a == b

@@ -2,7 +2,6 @@
 //! `specs/Spots.antt`. Proved with `proofs/spots/`.
 
 ghost use Rattle.std.specs.Prelude.{◌≡◌, ◌++◌, None, Some, IfOk, OnOk, if◌then◌else◌, fold};
-ghost use Rattle.cpa_model.specs.Standing.{same_sites};
 ghost use Rattle.cpa_recheck_obligations.specs.lemmas.SpotLaws.{same_spot-equiv, same_spot-per};
 ghost use Rattle.cpa_recheck_obligations.specs.lemmas.SpotLaws.{spot_writes-alike};
 ghost use Rattle.cpa_recheck_obligations.specs.Spots.{joined, spot_of, spot_of_parts, noted};
@@ -11,7 +10,7 @@ ghost use Rattle.cpa_recheck_obligations.specs.Spots.{permits_stack, same_point,
 ghost use Rattle.cpa_recheck_obligations.specs.Spots.{same_stack};
 ghost use Rattle.cpa_recheck_obligations.specs.Writes.{point_writes, spot_writes, stack_writes};
 
-use cpa_model::{Elem, Fact, Seq, copy_fact};
+use cpa_model::{Elem, Fact, Seq, copy_fact, same_sites};
 use std::alloc::{AllocError, Global};
 use std::hash::{Hash, Hasher};
 
@@ -179,13 +178,6 @@ pub(crate) fn permits(said: Option<u32>, point: u32) -> bool
         None => true,
         Some(own) => own == point,
     }
-}
-
-/// Whether two stacks have the same sites in the same order.
-fn same_sites(a: &Seq<u32>, b: &Seq<u32>) -> bool
-    ensures { result ≡ same_sites a.now b.now }
-{
-    a == b
 }
 
 /// Whether the stack is allowed beside what is said.

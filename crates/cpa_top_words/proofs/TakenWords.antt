@@ -38,10 +38,10 @@ named w e =
     let has = is_some (entered a walked.stopped) in
     let check : check_fault a.top rows has ≡ [] =
     last_of (walk_fault a.top (names_of a) (walk_from nothing_held) words)
-        (entered_fault a walked.stopped)
+    (entered_fault a walked.stopped)
     (settle_fault a.top.rules a.top.args_override_self walked.held)
     (defaults_fault (settled a.top.rules walked.held).rows a.top.rules)
-        (check_fault a.top rows has) e in
+    (check_fault a.top rows has) e in
     met has (not (a.top.subcommand_negates_reqs && has)
     && list_any (λ x. x.required && not (is_given x.id rows)) a.top.rules) check
 
@@ -95,6 +95,6 @@ pub taken_words_ask : (w : List Text) → AskForAJobWhereTaken w
 taken_words_ask w e =
     let found = told (subcommand_of cpaverify w) (named w e)
     (stopped (stop_after (built cpaverify).top.rules (names_of (built cpaverify))
-        (argument_words cpaverify w))) in
+    (argument_words cpaverify w))) in
     let job = some_of (asked_by w) found in
     (job.0, record { taken = e; asked = job.1 })

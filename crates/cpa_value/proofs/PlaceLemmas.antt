@@ -97,7 +97,7 @@ all_behind tracked n low from (Equals cell v ∷ fs) is past all =
     (list_all (is_within tracked 0 n) fs) all in
     let own = and_parts (nat_le 0 cell && nat_lt cell n) (tracked cell) both.0 in
     ap (λ t. cond t (Equals cell v ∷ facts_within tracked from n fs)
-        (facts_within tracked from n fs))
+    (facts_within tracked from n fs))
     (and_from (nat_le from cell && nat_lt cell n) (tracked cell)
     (and_from (nat_le from cell) (nat_lt cell n) (le-leb from cell (omega (arith, past, above)))
     (lt-ltb cell n b.below)) own.1)

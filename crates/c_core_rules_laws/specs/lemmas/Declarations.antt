@@ -91,7 +91,7 @@ module _ (F G : Frames) (same : SameFrames F G) where
   alike_initialized origin a b e at =
       alike_then (λ v. gives (v.statements ++ set origin a v.value ∷ []))
       (λ v. gives (v.statements ++ set origin b v.value ∷ []))
-        ((alike_expression F G same e).rule Used)
+      ((alike_expression F G same e).rule Used)
       (λ x y is. alike_gives (same_stored origin a b is at))
 
   each_initialized : (origin : ℕ) (t : IntType) (m n : ℕ) (items : List TypedExpression) →

@@ -119,7 +119,7 @@ module _ {Token T : Type 0} {see : List T → Token → Token} {go : Token → B
         SeenSoFar see go A at size left p (items ++ u ∷ []) k
     one_seen {u} {k} steady goes r = record {
       reads = λ us q rest. subst
-        (λ list. Reads (λ n. ManySeen see go (A n) []) at size left p list q)
+          (λ list. Reads (λ n. ManySeen see go (A n) []) at size left p list q)
           (sym (append_assoc items (u ∷ []) us))
           (s.reads (u ∷ us) q (seen_more see go A items goes r rest));
       front = λ i n v below b ts q x.

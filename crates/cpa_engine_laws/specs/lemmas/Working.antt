@@ -317,7 +317,7 @@ module _ (cfa : Cfa) (cs : List Component) (R : ℕ → List Elem → List Elem 
       (there 0 row refl) s.adjusted in
       let middle = all_compares_lined es ps s.elems s.precisions
       (numbers (fellows a.reached s.elems)) a s.compared laws s.adjusted.elems.size
-        s.adjusted.precisions.size s.compares at in
+      s.adjusted.precisions.size s.compares at in
       let first = ended_lined es s.elems s.precisions edge
       (first_cover cs s.elems (fellows s.compared.reached s.elems)) s.compared all.0
       s.adjusted.elems.size comes one s.is middle in

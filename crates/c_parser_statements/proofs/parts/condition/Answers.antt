@@ -35,4 +35,4 @@ pub returns : goal.returns
 unfolding condition
 returns c = rw c.in_ok-test.ensures
     (reads_opened c.in_ok-start.ensures
-        (reads_closed c.in_ok-inside.ensures c.in_ok-behind.ensures))
+    (reads_closed c.in_ok-inside.ensures c.in_ok-behind.ensures))

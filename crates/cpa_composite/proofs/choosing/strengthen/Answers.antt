@@ -100,6 +100,6 @@ returns-clause-laws g c =
     let ms = map meaning handed in
     let many = picked_length ms picks (within_meanings meaning handed picks c.requires.picks) in
     halfway_whole c.args.cfa.now (picked ms picks) c.args.choice.items c.args.precisions.now
-        at.place
+    at.place
     at.row.items (omega (arith, c.loop-place-test.false, many))
     at.invariant.half

@@ -16,7 +16,7 @@ loop-place-preserved c =
       long = c.mark_newly.ensures.length ∙ l.invariant.long;
       marks = λ cell.
           marks_more (is_marked l.marks cell)
-            (is_new (take l.place c.args.old.now) c.args.new.now cell)
+          (is_new (take l.place c.args.old.now) c.args.new.now cell)
           (keeps_newly p q cell) (nat_lt cell cells) (is_marked c.mark_newly.new.marks cell)
           (l.invariant.marks cell)
           (c.in_ok-mark_newly.ensures.marks cell

@@ -14,7 +14,7 @@ loop-number-preserved c =
     let rest = drop (i + 1) xs in
     let edge = edge_at cfa xs i c.loop-number-test.true c.requires.path in
     ap (λ (f : Form). form_from f (added_along cfa rest))
-        (c.in_ok-take_edge.ensures.ok edge.0 edge.1)
+    (c.in_ok-take_edge.ensures.ok edge.0 edge.1)
     ∙ form_on cfa (get_or xs i 0) rest edge.0 at.form edge.1
     ∙ subst (λ (ns : List ℕ). form_from at.form (added_along cfa ns) ≡ path_form cfa xs)
     (drop_more xs i 0 c.loop-number-test.true) at.invariant

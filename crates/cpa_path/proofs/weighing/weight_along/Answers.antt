@@ -19,7 +19,7 @@ loop-number-preserved c =
     let so = subst (λ (ns : List ℕ). IsSoFar cfa xs ns at.total)
     (drop_more xs i 0 c.loop-number-test.true) at.invariant in
     let sum = c.saturating_add-total.ensures ∙ ap (λ (w : ℕ). min (at.total + w) m)
-        c.act_weight.ensures
+    c.act_weight.ensures
     in
     record {
       whole = ap (λ (t : ℕ). min (t + sum_by act_weight (acts_along cfa (drop (i + 1) xs))) m) sum

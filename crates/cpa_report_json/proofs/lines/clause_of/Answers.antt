@@ -15,6 +15,6 @@ returns-clause-fit c all = (
   c.in_ok-clause.ensures.sorted,
   all_same LiteralFits _ _ (λ l h.
       sym (c.in_ok-clause.ensures.literals l ∙ ap (λ (xs : List ℕ). has xs l)
-        c.into_vec.ensures) ∙ h)
+      c.into_vec.ensures) ∙ h)
       all,
 )

@@ -9,4 +9,4 @@ returns-in-NoNew c =
     let member = c.write_member-in-NoNew in
     subst (λ (b : Body). OnOk member.result
     (Wrote c.args.writer.now member.new.writer (front (before_text b)))) (sym c.in-NoNew.is)
-        member.ensures
+    member.ensures

@@ -12,8 +12,8 @@ returns c =
     let none = drop_all c.loop-step.step-index c.args.steps.now c.loop-step-test.false in
     let i = c.loop-step.invariant in
     closed (both (one c.begin_array.ensures.room.0 c.in_ok-begin_array.ensures.ok)
-        c.in_ok-write.ensures)
+    c.in_ok-write.ensures)
     (record { before = i.before; tokens = i.tokens })
     (ap (λ steps. items_of
-        (map number_data (flat_map (λ (step : Step). step.pivot ∷ step.clause ∷ []) steps))) none)
+    (map number_data (flat_map (λ (step : Step). step.pivot ∷ step.clause ∷ []) steps))) none)
     c.end_array.ensures

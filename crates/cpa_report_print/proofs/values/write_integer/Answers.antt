@@ -13,5 +13,5 @@ is_short z h = let bound = h.sfits in omega arith
 pub number-requires : goal.number-requires
 number-requires c =
     subst IsNumber (sym (c.format.ensures.text ∙ ap signed_decimal
-        (to_z-of_z w128 c.args.value c.ranges.value)))
+    (to_z-of_z w128 c.args.value c.ranges.value)))
     (wide_number c.args.value (is_short c.args.value c.ranges.value))

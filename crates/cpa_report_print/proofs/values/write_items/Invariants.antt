@@ -11,6 +11,6 @@ invariant-loop-item g l = record {
   tokens :
       (rest : List Token)
       → l.writer.tokens ++ items_onto
-        (items_of (map g.T.Json.json (drop l.item-index l.items))) rest
+      (items_of (map g.T.Json.json (drop l.item-index l.items))) rest
       ≡ l.initial.writer.tokens ++ items_onto (items_of (map g.T.Json.json l.items)) rest;
 }

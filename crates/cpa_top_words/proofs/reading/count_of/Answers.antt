@@ -65,28 +65,28 @@ module _ (E : Type 0) (P : List ℕ → Result ℕ E → Type 0)
 pub returns-in-Some : goal.returns-in-Some
 returns-in-Some c =
     small_read _ (λ bs r. ParsesUnsigned 64 10 bs r × ExplainsUnsignedError 10 bs r ×
-        HasUnsignedDigitsIfOk bs r)
+    HasUnsignedDigitsIfOk bs r)
     (λ t x h. h.0) _ c.get_one.result c.in-Some.count
     (let few = c.if-count-from.true in let most = c.from.ensures in omega (arith, few, most))
     c.get_one.ensures.none c.get_one.ensures.value c.in-Some.is
     ∙ ap (λ (o : Option (List ℕ)). option_map_or count_in o 0)
-        (one_text-rows (found_of c.args.matches.now) (codes "N"))
+    (one_text-rows (found_of c.args.matches.now) (codes "N"))
 
 pub returns-in_default : goal.returns-in_default
 returns-in_default c =
     large_read _ (λ bs r. ParsesUnsigned 64 10 bs r × ExplainsUnsignedError 10 bs r ×
-        HasUnsignedDigitsIfOk bs r)
+    HasUnsignedDigitsIfOk bs r)
     (λ t x h. h.0) _ c.get_one.result c.in-Some.count
     (let many = c.if-count-from.false in let most = c.from.ensures in omega (arith, many, most))
     c.get_one.ensures.none c.get_one.ensures.value c.in-Some.is
     ∙ ap (λ (o : Option (List ℕ)). option_map_or count_in o 0)
-        (one_text-rows (found_of c.args.matches.now) (codes "N"))
+    (one_text-rows (found_of c.args.matches.now) (codes "N"))
 
 pub returns-in_default-2 : goal.returns-in_default-2
 returns-in_default-2 c =
     unread _ (λ bs r. ParsesUnsigned 64 10 bs r × ExplainsUnsignedError 10 bs r ×
-        HasUnsignedDigitsIfOk bs r)
+    HasUnsignedDigitsIfOk bs r)
     (λ t x h. h.0) _ c.get_one.result c.get_one.ensures.none c.get_one.ensures.value
     c.in_default.is
     ∙ ap (λ (o : Option (List ℕ)). option_map_or count_in o 0)
-        (one_text-rows (found_of c.args.matches.now) (codes "N"))
+    (one_text-rows (found_of c.args.matches.now) (codes "N"))

@@ -14,4 +14,4 @@ pub returns : goal.returns
 returns c =
     ap (λ (s : Bor (List ℕ)). s.now) c.unwrap_or.ensures ∙ now_or c.get_str.result _
     ∙ ap (λ (t : Option (List ℕ)). unwrap_or t [])
-        (c.get_str.ensures ∙ first_value-rows (found_of c.args.matches.now) c.args.id.now)
+    (c.get_str.ensures ∙ first_value-rows (found_of c.args.matches.now) c.args.id.now)

@@ -48,16 +48,16 @@ unread E P (Some t) None f none value e =
 pub returns-in-Some : goal.returns-in-Some
 returns-in-Some c =
     read _ (λ bs r. ParsesUnsigned 64 10 bs r × ExplainsUnsignedError 10 bs r ×
-        HasUnsignedDigitsIfOk bs r)
+    HasUnsignedDigitsIfOk bs r)
     _ c.get_one.result c.in-Some.steps (λ t x h. h.0) c.get_one.ensures.none c.get_one.ensures.value
-        c.in-Some.is
+    c.in-Some.is
     ∙ ap (λ (o : Option (List ℕ)). option_map_or number_of o 1000000)
-        (one_text-rows (found_of c.args.matches.now) (codes "steps"))
+    (one_text-rows (found_of c.args.matches.now) (codes "steps"))
 
 pub returns-in-None : goal.returns-in-None
 returns-in-None c =
     unread _ (λ bs r. ParsesUnsigned 64 10 bs r × ExplainsUnsignedError 10 bs r ×
-        HasUnsignedDigitsIfOk bs r)
+    HasUnsignedDigitsIfOk bs r)
     _ c.get_one.result (λ t x h. h.0) c.get_one.ensures.none c.get_one.ensures.value c.in-None.is
     ∙ ap (λ (o : Option (List ℕ)). option_map_or number_of o 1000000)
-        (one_text-rows (found_of c.args.matches.now) (codes "steps"))
+    (one_text-rows (found_of c.args.matches.now) (codes "steps"))
