@@ -30,7 +30,7 @@ use Rattle.cpa_interpolant_rules.specs.Laws.{interpolants_leave_no_run}
 use Rattle.cpa_interpolant_answers.specs.declared.answer.Answer.{Answer}
 use Rattle.cpa_interpolant_answers.specs.declared.answer.Answer.TheVariants as answer
 use Rattle.cpa_interpolant_answers.specs.Answers.{weight_at, IsAnswer, IsNextBehind, HasRun}
-use Rattle.cpa_interpolant_answers.specs.lemmas.Keeping.{edge_there, edge_in}
+use Rattle.cpa_interpolant_rules.specs.lemmas.Keeping.{edge_there, edge_in}
 use Rattle.cpa_interpolant.specs.Along.{AreDone, IsLight, AreFound, Stops}
 use Rattle.cpa_interpolant.specs.Walked.{AreBehind, IsWalked, IsNextAnswer, RunsIfRun}
 

@@ -9,7 +9,7 @@ use Rattle.cpa_model.specs.Expressions.{IsExpr}
 use Rattle.cpa_query.specs.Queries.{IsModel}
 use Rattle.cpa_interpolant_rules.specs.Interpolants.{AreInterpolants, ArePathInterpolants, last_of}
 use Rattle.cpa_interpolant_rules.specs.Interpolants.{one}
-use Rattle.cpa_interpolant_cuts.specs.Cuts.{behind_cut}
+use Rattle.cpa_interpolant_rules.specs.Parts.{behind_cut}
 use Rattle.cpa_interpolant_answers.specs.Answers.{weight_at, IsDone, IsLearnt, IsHeavy}
 use Rattle.cpa_interpolant_answers.specs.Answers.{IsLarge}
 use Rattle.cpa_interpolant.specs.declared.outcome.Along.{Along}

@@ -20,13 +20,15 @@ use Rattle.cpa_model.specs.Expressions.{IsExpr}
 use Rattle.cpa_form_rules.specs.Forms.{Form}
 use Rattle.cpa_folds.specs.Along.{act_of, acts_along}
 use Rattle.cpa_interpolant_bits.specs.declared.bits.Bit.{Bit}
-use Rattle.cpa_interpolant_cuts.specs.Cuts.{before_cut, behind_cut, formula_of, sides_at}
-use Rattle.cpa_interpolant_cuts.specs.Cuts.{shared_bits_of, weight_of}
+use Rattle.cpa_interpolant_rules.specs.Parts.{before_cut, behind_cut}
+use Rattle.cpa_interpolant_cuts.specs.Cuts.{formula_of, sides_at}
+use Rattle.cpa_interpolant_rules.specs.Parts.{weight_of}
+use Rattle.cpa_interpolant_cuts.specs.Cuts.{shared_bits_of}
 use Rattle.cpa_interpolant_cuts.specs.Laws.{IsCut, CutsAreAsked}
 use Rattle.cpa_interpolant_cuts.specs.lemmas.Meet.{AreParts}
 use Rattle.cpa_interpolant_answers.specs.Answers.{formula_at, weight_at}
-use Rattle.cpa_interpolant_answers.specs.lemmas.Keeping.{AreLaws, AreGood, edge_there, good_edge}
-use Rattle.cpa_interpolant_answers.specs.lemmas.Keeping.{good_path}
+use Rattle.cpa_interpolant_rules.specs.lemmas.Keeping.{AreLaws, AreGood, edge_there, good_edge}
+use Rattle.cpa_interpolant_rules.specs.lemmas.Keeping.{good_path}
 
 -- the cells of an automaton are few
 pub few_cells : (cfa : Cfa) → IsAutomaton cfa → length cfa.cells < 2 ^ 32

@@ -24,11 +24,11 @@ use Rattle.cpa_folds.specs.Along.{acts_along}
 use Rattle.cpa_interpolant_rules.specs.Stores.{IsStore, RunsFrom}
 use Rattle.cpa_interpolant_rules.specs.Interpolants.{IsNext, zero}
 use Rattle.cpa_interpolant_rules.specs.Laws.{interpolants_leave_no_run}
-use Rattle.cpa_interpolant_cuts.specs.Cuts.{added_behind}
+use Rattle.cpa_interpolant_rules.specs.Parts.{added_behind}
 use Rattle.cpa_interpolant_cuts.specs.Laws.{IsCut, CutsAreRuns}
-use Rattle.cpa_interpolant_cuts.specs.lemmas.Next.{run_before}
+use Rattle.cpa_interpolant_rules.specs.lemmas.Taking.{run_before}
 use Rattle.cpa_interpolant_answers.specs.Answers.{formula_at, weight_at, HasRun, IsNextBehind}
-use Rattle.cpa_interpolant_answers.specs.lemmas.Keeping.{Keeps}
+use Rattle.cpa_interpolant_rules.specs.lemmas.Keeping.{Keeps}
 
 -- a run that meets the edges is one of stores
 runs_from : (cells : List Cell) (acts : List Act) → AllByRecursion (Keeps cells) acts

@@ -6,7 +6,8 @@ use Rattle.cpa_sat.specs.Outcomes.{IsRefutedWithin}
 use Rattle.cpa_expr.specs.declared.tree.Expr.{Expr}
 use Rattle.cpa_model.specs.declared.automaton.Act.{Act}
 use Rattle.cpa_model.specs.declared.automaton.Cfa.{Cfa}
-use Rattle.cpa_interpolant_cuts.specs.Cuts.{before_cut, behind_cut, sides_at, shared_bits_of}
+use Rattle.cpa_interpolant_rules.specs.Parts.{before_cut, behind_cut}
+use Rattle.cpa_interpolant_cuts.specs.Cuts.{sides_at, shared_bits_of}
 use Rattle.cpa_interpolant_cuts.specs.Laws.{IsCut}
 use Rattle.cpa_interpolant_answers.specs.Answers.{weight_at, formula_at, IsAnswer}
 use Rattle.cpa_interpolant_answers.specs.declared.asking.Refuted.{Refuted}

@@ -37,7 +37,7 @@ use Rattle.cpa_interpolant_cuts.specs.Touching.{IsGone}
 use Rattle.cpa_interpolant_cuts.specs.Places.{ArePlaces, places_stand_apart}
 use Rattle.cpa_interpolant_rules.specs.Stores.{IsStore}
 use Rattle.cpa_interpolant_rules.specs.Interpolants.{IsNext}
-use Rattle.cpa_interpolant_cuts.specs.Cuts.{added_before, added_behind, before_cut, behind_cut}
+use Rattle.cpa_interpolant_rules.specs.Parts.{added_before, added_behind, before_cut, behind_cut}
 use Rattle.cpa_interpolant_cuts.specs.Cuts.{meetings_of, formula_of, sides_at, expr_of}
 use Rattle.cpa_interpolant_cuts.specs.lemmas.Meet.{AreParts}
 use Rattle.cpa_interpolant_cuts.specs.lemmas.Asked.{as_many_sides, all_below}
