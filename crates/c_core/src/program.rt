@@ -1,10 +1,10 @@
-//! The program of core statements that a typed text is, and where it comes from (`IsCore` and
+//! The program of core statements that a checked text is, and where it comes from (`IsCore` and
 //! `AreOrigins` of `c_core_checked`, `specs/Texts.antt`): its trees, numbered. Proved by the
 //! checker alone.
 ghost use Rattle.std.specs.Prelude.{IfOk};
 ghost use Rattle.c_core_checked.specs.Texts.{IsCore, AreOrigins};
 
-use c_core_checked::TypedText;
+use c_core_checked::CheckedText;
 use cpa_ints::Seq;
 use cpa_model::Program;
 use cpa_model_trees::numbered_bodies;
@@ -20,32 +20,32 @@ pub struct Traced {
     pub cells: Seq<Option<u32>>,
 }
 
-/// The program that a typed text is, and where it comes from. More than 2^32 statements are want
+/// The program that a checked text is, and where it comes from. More than 2^32 statements are want
 /// of memory.
-pub fn trace(alloc: Global, typed: TypedText) -> Result<Traced, AllocError>
-    ensures built { IfOk result (λ traced. IsCore typed traced.program) }
-    ensures origins { IfOk result (λ traced. AreOrigins typed traced.points traced.cells) }
+pub fn trace(alloc: Global, checked: CheckedText) -> Result<Traced, AllocError>
+    ensures built { IfOk result (λ traced. IsCore checked traced.program) }
+    ensures origins { IfOk result (λ traced. AreOrigins checked traced.points traced.cells) }
 {
-    let numbered = numbered_bodies(alloc, typed.trees.into_vec())?;
+    let numbered = numbered_bodies(alloc, checked.trees.into_vec())?;
     let mut points = numbered.places.into_vec();
-    points.extend_from_slice(typed.ends.as_slice())?;
+    points.extend_from_slice(checked.ends.as_slice())?;
     Ok(Traced {
         program: Program {
-            cells: typed.cells,
+            cells: checked.cells,
             bodies: numbered.bodies,
-            main: typed.main,
+            main: checked.main,
             stmts: numbered.stmts,
-            text_len: typed.text_len,
+            text_len: checked.text_len,
         },
         points: Seq::from_vec(points),
-        cells: typed.names,
+        cells: checked.names,
     })
 }
 
 /// The program alone.
-pub fn core(alloc: Global, typed: TypedText) -> Result<Program, AllocError>
-    ensures built { IfOk result (λ program. IsCore typed program) }
+pub fn core(alloc: Global, checked: CheckedText) -> Result<Program, AllocError>
+    ensures built { IfOk result (λ program. IsCore checked program) }
 {
-    let traced = trace(alloc, typed)?;
+    let traced = trace(alloc, checked)?;
     Ok(traced.program)
 }

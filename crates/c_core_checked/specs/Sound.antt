@@ -7,9 +7,9 @@ use Rattle.c_lexer.specs.declared.fault.TextError.{TextError}
 use Rattle.c_lexer.specs.declared.fault.TextError.TheVariants as error
 use Rattle.c_grammar_tree.specs.declared.item.Unit.{Unit as UnitTree}
 use Rattle.c_types_rules.specs.Sound.{BreaksTree, NotBehind, unit_globals, unit_functions}
-use Rattle.c_core_checked.specs.declared.text.TypedText.{TypedText}
+use Rattle.c_core_checked.specs.declared.text.CheckedText.{CheckedText}
 use Rattle.c_core_rules_laws.specs.Layouts as layouts
-use Rattle.c_core_checked.specs.Texts.{IsTypedText}
+use Rattle.c_core_checked.specs.Texts.{IsCheckedText}
 
 -- N13: the core, which a text has that breaks no other rule, is larger than a program may be
 -- (this project's own): the text's end
@@ -32,9 +32,9 @@ pub record IsFirstBroken (unit : UnitTree) (fault : TextFault) : Type 0 where
   pub breaks : Breaks unit fault
   pub first : (other : TextFault) → Breaks unit other → NotBehind fault other
 
--- what a check of a text answers: the typed text where the text is sound, and otherwise the first
+-- what a check of a text answers: the checked text where the text is sound, and otherwise the first
 -- broken rule
-abbrev pub IsChecked : UnitTree → Result TypedText TextError → Type 0
-IsChecked unit (Ok typed) = Sound unit × IsTypedText unit typed
+abbrev pub IsChecked : UnitTree → Result CheckedText TextError → Type 0
+IsChecked unit (Ok checked) = Sound unit × IsCheckedText unit checked
 IsChecked unit (Err (error.Fault fault)) = IsFirstBroken unit fault
 IsChecked unit (Err error.OutOfMemory) = Unit {0}

@@ -1,3 +1,3 @@
 -- Lemmas on the definitions, which the laws' proofs and crates above cite. No definition that a
 -- contract cites stands here.
-pub mod Typed
+pub mod Checked

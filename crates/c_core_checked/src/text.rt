@@ -1,11 +1,11 @@
-//! A typed text. `IsTypedText` of `specs/Texts.antt` says which one is a tree's.
+//! A checked text. `IsCheckedText` of `specs/Texts.antt` says which one is a tree's.
 use cpa_ints::Seq;
 use cpa_model::Cell;
 use cpa_model_trees::CoreTree;
 
-/// A typed text: what the rules of the core take and make of it.
+/// A checked text: what the rules of the core take and make of it.
 #[derive(Drop)]
-pub struct TypedText {
+pub struct CheckedText {
     /// In order: those of the objects of file scope, then those of each function.
     pub cells: Seq<Cell>,
     /// Of each cell of an object or of a parameter the place of its name; the others have none.

@@ -1,5 +1,5 @@
 -- Every statement, and every text, makes trees whose nodes have the parts of their heads, with the
--- labels and jumps of the typed text.
+-- labels and jumps of the checked text.
 use Rattle.std.proofs.Common.{◌≡◌, ℕ, zero, suc, ◌+◌, ◌-◌, List, [], ◌∷◌, ◌++◌, map, length, Option}
 use Rattle.std.proofs.Common.{None, Some, refl, sym, subst, pos, Bool, true, false, ap, ◌∙◌, arith}
 use Rattle.cpa_ints.specs.declared.integers.IntType.{IntType}
@@ -45,8 +45,8 @@ use Rattle.c_core_rules.specs.Expressions as rows
 use Rattle.c_core_rules.specs.Statements as statement
 use Rattle.c_core_rules.specs.Programs.{frames_of}
 use Rattle.c_core_rules_laws.specs.Layouts.{file_cells}
-use Rattle.c_core_checked.specs.declared.text.TypedText.{TypedText}
-use Rattle.c_core_checked.specs.Texts.{IsTypedText}
+use Rattle.c_core_checked.specs.declared.text.CheckedText.{CheckedText}
+use Rattle.c_core_checked.specs.Texts.{IsCheckedText}
 use Rattle.std.proofs.lemmas.List.{append-nil}
 use Rattle.c_core_laws.specs.Jumps.{Jumps, no_jumps, then_jumps, all_jumps, labelled, in_loop, goto}
 use Rattle.c_core_laws.specs.Jumps.{leaving, statement_jumps, item_layer_jumps, item_jumps}
@@ -587,10 +587,10 @@ functions_make frames (function ∷ functions) =
           ∙ ap (λ (all : List Jumps). function_jumps function ∷ all) are.are;
     })))
 
--- the trees of a typed text
-pub text_keeps : (tree : UnitTree) (typed : TypedText) → IsTypedText tree typed →
-    Keep (unit_functions tree) typed.trees
-text_keeps tree typed of =
+-- the trees of a checked text
+pub text_keeps : (tree : UnitTree) (checked : CheckedText) → IsCheckedText tree checked →
+    Keep (unit_functions tree) checked.trees
+text_keeps tree checked of =
     let functions = unit_functions tree in
     subst (Keep functions) (sym of.trees)
     ((functions_make (frames_of of.first_cells functions) functions).at (file_cells

@@ -15,8 +15,8 @@ use Rattle.cpa_model_trees.specs.declared.tree.Head.{Head}
 use Rattle.cpa_model_trees.specs.declared.tree.Head.TheVariants as head
 use Rattle.cpa_model_trees.specs.Numbering.{Placed, statements, stmt_of, part, labels_from}
 use Rattle.cpa_model_trees.specs.Numbering.{numbers_from, Trees, AreTreesOf}
-use Rattle.c_core_checked.specs.declared.text.TypedText.{TypedText}
-use Rattle.c_core_checked.specs.Texts.{IsTypedText, IsCore}
+use Rattle.c_core_checked.specs.declared.text.CheckedText.{CheckedText}
+use Rattle.c_core_checked.specs.Texts.{IsCheckedText, IsCore}
 use Rattle.c_core_checked.specs.Sound.{Sound}
 use Rattle.c_core_laws.specs.Jumps.{tree_jumps, JumpIsSound}
 use Rattle.c_core_laws.specs.Standing.{IsOfTree}
@@ -89,12 +89,12 @@ in_function trees P n s r i p at =
     (λ b c part up. function_part b part up) r.tree).at r.first r.placed_at r.fits
     (function_body r.body) i p at
 
-pub of_tree : (tree : UnitTree) (typed : TypedText) (P : Program) → IsTypedText tree typed →
-    IsCore typed P → (n : ℕ) (s : Stmt) → IsStmt P n s → IsOfTree typed.trees P n s
-of_tree tree typed P of is n s at =
-    let trees = typed.trees in
+pub of_tree : (tree : UnitTree) (checked : CheckedText) (P : Program) → IsCheckedText tree checked →
+    IsCore checked P → (n : ℕ) (s : Stmt) → IsStmt P n s → IsOfTree checked.trees P n s
+of_tree tree checked P of is n s at =
+    let trees = checked.trees in
     let r : StandsIn trees P n s =
-    stands_in trees P is.trees (text_keeps tree typed of).shaped n s at in
+    stands_in trees P is.trees (text_keeps tree checked of).shaped n s at in
     record {
       function = r.function;
       tree = r.tree;
@@ -151,12 +151,12 @@ goto_leads trees P N n s r label below f inside =
     (subst (InFunction P r.function) (sym goes) there) in
     (in_function_inside P N f (part labels label) to_there, to_there)
 
-pub jump_sound : (tree : UnitTree) (typed : TypedText) (P : Program) → Sound tree →
-    IsTypedText tree typed → IsCore typed P → (n : ℕ) (s : Stmt) → IsStmt P n s →
+pub jump_sound : (tree : UnitTree) (checked : CheckedText) (P : Program) → Sound tree →
+    IsCheckedText tree checked → IsCore checked P → (n : ℕ) (s : Stmt) → IsStmt P n s →
     JumpIsSound P n s
-jump_sound tree typed P sound of is n s at =
-    let trees = typed.trees in
-    let kept = text_keeps tree typed of in
+jump_sound tree checked P sound of is n s at =
+    let trees = checked.trees in
+    let kept = text_keeps tree checked of in
     let r : StandsIn trees P n s = stands_in trees P is.trees kept.shaped n s at in
     let labels = labels_from r.first (statements r.tree) in
     let fit : JumpsFit (tree_jumps r.tree) =
@@ -172,4 +172,4 @@ jump_sound tree typed P sound of is n s at =
     (by_head P labels n r.placed.head (numbers_from ((r.first + r.index) + 1) r.placed.sizes)
     (λ so. subst (IsInLoop P) (sym r.here)
     ((loops_in P labels r.tree).at r.first r.placed_at r.fits (inl fit.0) r.index r.placed r.at so))
-    below (goto_leads trees P (core_numbered tree typed P of is) n s r))
+    below (goto_leads trees P (core_numbered tree checked P of is) n s r))

@@ -24,8 +24,8 @@ use Rattle.c_types_rules.specs.Recursion.{Among}
 use Rattle.c_types_rules.specs.Sound.{functions_of, main_name, is_main}
 use Rattle.c_types_rules.specs.Sound.{unit_faults}
 use Rattle.c_types_rules.specs.Sound.{has_no_parameters}
-use Rattle.c_core_checked.specs.declared.text.TypedText.{TypedText}
-use Rattle.c_core_checked.specs.Texts.{IsTypedText, IsCore}
+use Rattle.c_core_checked.specs.declared.text.CheckedText.{CheckedText}
+use Rattle.c_core_checked.specs.Texts.{IsCheckedText, IsCore}
 use Rattle.c_core_checked.specs.Sound.{Sound}
 use Rattle.c_core_laws.specs.lemmas.BodyCounts.{bodies_are}
 
@@ -130,15 +130,15 @@ has_main tree sound =
     (items_faults (text_of tree.items) tree.items nothing_before)
     (λ other among. sound other (inl (inl among)))
 
-pub main_body : (tree : UnitTree) (typed : TypedText) (P : Program) → Sound tree →
-    IsTypedText tree typed → IsCore typed P → P.main < length P.bodies
-main_body tree typed P sound of is =
+pub main_body : (tree : UnitTree) (checked : CheckedText) (P : Program) → Sound tree →
+    IsCheckedText tree checked → IsCore checked P → P.main < length P.bodies
+main_body tree checked P sound of is =
     let names = filter_map body_name tree.items in
     let f : Found names (place_of (bytes_eq main_name) names) =
     found (bytes_eq main_name) names (main_named (text_of tree.items) tree.items
     (has_main tree sound)) in
     let here : P.main ≡ f.0 = is.main ∙ of.main ∙ ap (λ o. unwrap_or o 0) f.1 in
     let many : length P.bodies ≡ length names =
-    bodies_are tree typed P of is
+    bodies_are tree checked P of is
     ∙ functions_many (text_of tree.items) tree.items nothing_before in
     omega (arith, f.2)

@@ -15,8 +15,8 @@ use Rattle.cpa_model_trees.specs.Numbering.{numbers_from, numbered, numbered_bod
 use Rattle.cpa_model_trees.specs.Rows.{row_of}
 use Rattle.c_grammar_tree.specs.declared.item.Unit.{Unit as UnitTree}
 use Rattle.c_core_rules_laws.specs.Sizes.{head_height, heights_of}
-use Rattle.c_core_checked.specs.declared.text.TypedText.{TypedText}
-use Rattle.c_core_checked.specs.Texts.{IsTypedText, IsCore, unit_core}
+use Rattle.c_core_checked.specs.declared.text.CheckedText.{CheckedText}
+use Rattle.c_core_checked.specs.Texts.{IsCheckedText, IsCore, unit_core}
 use Rattle.c_core_checked.specs.Sound.{Sound}
 use Rattle.c_core_checked.specs.Laws.{sound_texts_are_within_limits}
 use Rattle.c_core_laws.specs.Sizes.{IsSmall, stmt_height}
@@ -67,28 +67,28 @@ row_heights : (trees : Trees) → heights (row_of trees) ≡ heights_of trees
 unfolding heights_of
 row_heights trees = refl
 
-core_heights : (typed : TypedText) (P : Program) → IsCore typed P →
-    map stmt_height P.stmts ≡ heights_of typed.trees
-core_heights typed P is =
+core_heights : (checked : CheckedText) (P : Program) → IsCore checked P →
+    map stmt_height P.stmts ≡ heights_of checked.trees
+core_heights checked P is =
     ap (λ (all : List Stmt). map stmt_height all) is.trees.stmts
-    ∙ bodies_heights 0 typed.trees ∙ row_heights typed.trees
+    ∙ bodies_heights 0 checked.trees ∙ row_heights checked.trees
 
 each_height : (stmts : List Stmt) (n : ℕ) → greatest (map stmt_height stmts) ≤ n →
     AllByRecursion (λ s. stmt_height s ≤ n) stmts
 each_height [] n h = tt
 each_height (s ∷ stmts) n h = (omega arith, each_height stmts n (omega arith))
 
-pub core_small : (tree : UnitTree) (typed : TypedText) (P : Program) → Sound tree →
-    IsTypedText tree typed → IsCore typed P → IsSmall P
-core_small tree typed P sound of is =
+pub core_small : (tree : UnitTree) (checked : CheckedText) (P : Program) → Sound tree →
+    IsCheckedText tree checked → IsCore checked P → IsSmall P
+core_small tree checked P sound of is =
     let within = sound_texts_are_within_limits tree of.first_cells sound in
     let m = unit_core of.first_cells tree in
-    let same = core_heights typed P is
+    let same = core_heights checked P is
     ∙ ap heights_of of.trees in
     let stmts : length P.stmts ≡ length (heights_of m.made) =
     sym (length-map P.stmts stmt_height) ∙ ap (λ (hs : List ℕ). length hs) same in
     let bodies : length P.bodies ≡ length m.made =
-    bodies_many typed P is ∙ ap (λ (trees : Trees). length trees) of.trees in
+    bodies_many checked P is ∙ ap (λ (trees : Trees). length trees) of.trees in
     let cells : length P.cells ≡ length m.taken.cells =
     ap (λ (cs : List Cell). length cs) (is.cells ∙ of.cells) in
     record {

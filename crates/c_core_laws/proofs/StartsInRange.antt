@@ -15,9 +15,9 @@ use Rattle.c_core_rules.specs.Cells.{Taken, cell, cells_with, taking, nothing_ta
 use Rattle.c_core_rules.specs.Statements.{receiving_globals}
 use Rattle.c_core_rules.specs.Programs.{frames_of}
 use Rattle.c_core_rules_laws.specs.Layouts.{file_cells}
-use Rattle.c_core_checked.specs.declared.text.TypedText.{TypedText}
+use Rattle.c_core_checked.specs.declared.text.CheckedText.{CheckedText}
 use Rattle.c_core_rules_laws.specs.Layouts.{text_from}
-use Rattle.c_core_checked.specs.Texts.{IsTypedText, IsCore}
+use Rattle.c_core_checked.specs.Texts.{IsCheckedText, IsCore}
 use Rattle.c_core_checked.specs.Sound.{Sound}
 use Rattle.c_core_laws.proofs.Extending.{zero_cell}
 use Rattle.c_core_laws.proofs.JumpsKept.{functions_make}
@@ -73,10 +73,10 @@ text_in_range firsts globals functions h =
     (cells_append front.cells (map zero_cell behind.more)
     (globals_in_range globals nothing_taken h tt) (zero_cells behind.more))
 
-pub cells_in_range : (tree : UnitTree) (typed : TypedText) (P : Program) → Sound tree →
-    IsTypedText tree typed → IsCore typed P →
+pub cells_in_range : (tree : UnitTree) (checked : CheckedText) (P : Program) → Sound tree →
+    IsCheckedText tree checked → IsCore checked P →
     AllByRecursion (λ (c : Cell). IsInRange c.ty c.start) P.cells
-cells_in_range tree typed P sound of is =
+cells_in_range tree checked P sound of is =
     subst AllInRange (sym (is.cells ∙ of.cells))
     (text_in_range of.first_cells (unit_globals tree) (unit_functions tree)
     (globals_fit tree sound))

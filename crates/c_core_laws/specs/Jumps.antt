@@ -1,4 +1,4 @@
--- The labels and jumps of core statements, and of the statements of a typed text, and jumps that
+-- The labels and jumps of core statements, and of the statements of a typed tree, and jumps that
 -- lead where they may (C11 6.8.1 and 6.8.6).
 use Rattle.std.specs.Prelude.{ℕ, ◌+◌, Bool, true, false, ◌||◌, List, [], ◌∷◌, ◌++◌, map, ⊤}
 use Rattle.c_types_rules.specs.declared.typed.TypedItem.{TypedItem}

@@ -1,4 +1,4 @@
--- The laws of the core of a typed text.
+-- The laws of the core of a checked text.
 use Rattle.std.specs.Prelude.{◌≡◌, ℕ, ◌<◌, List, length, map, Some, slice_get}
 use Rattle.std.specs.List.{AllByRecursion}
 use Rattle.cpa_ints.specs.Integers.{IsInRange}
@@ -18,9 +18,9 @@ use Rattle.c_core_rules.specs.Expressions.{Frames, frame_at}
 use Rattle.c_core_rules.specs.Statements.{function_rule}
 use Rattle.c_core_rules.specs.Programs.{frames_of}
 use Rattle.c_core_rules_laws.specs.Layouts.{AreFirst}
-use Rattle.c_core_checked.specs.declared.text.TypedText.{TypedText}
+use Rattle.c_core_checked.specs.declared.text.CheckedText.{CheckedText}
 use Rattle.c_core_rules_laws.specs.Layouts.{text_from}
-use Rattle.c_core_checked.specs.Texts.{IsTypedText, IsCore}
+use Rattle.c_core_checked.specs.Texts.{IsCheckedText, IsCore}
 use Rattle.c_core_checked.specs.Sound.{Sound}
 use Rattle.c_core_laws.specs.Jumps.{tree_jumps, function_jumps, JumpIsSound}
 use Rattle.c_core_laws.specs.Labels.{function_labels, AreInOrder, IsBlockOf, IsNamed, sites_in}
@@ -29,7 +29,7 @@ use Rattle.c_core_laws.specs.Starts.{FrameStands}
 use Rattle.c_core_laws.specs.Standing.{IsOfTree}
 
 abbrev pub OneCore : Type 0
-OneCore = (typed : TypedText) (P Q : Program) → IsCore typed P → IsCore typed Q → P ≡ Q
+OneCore = (checked : CheckedText) (P Q : Program) → IsCore checked P → IsCore checked Q → P ≡ Q
 
 abbrev pub FramesAreThere : Type 0
 FramesAreThere =
@@ -41,38 +41,40 @@ FramesAreThere =
 
 abbrev pub CoresAreNumbered : Type 0
 CoresAreNumbered =
-    (tree : UnitTree) (typed : TypedText) (P : Program) → IsTypedText tree typed → IsCore typed P
-    → IsNumbered P
+    (tree : UnitTree) (checked : CheckedText) (P : Program) → IsCheckedText tree checked →
+    IsCore checked P → IsNumbered P
 
 abbrev pub CoresAreSmall : Type 0
 CoresAreSmall =
-    (tree : UnitTree) (typed : TypedText) (P : Program) → Sound tree → IsTypedText tree typed
-    → IsCore typed P → IsSmall P
+    (tree : UnitTree) (checked : CheckedText) (P : Program) → Sound tree →
+    IsCheckedText tree checked → IsCore checked P → IsSmall P
 
 abbrev pub CoresHaveAMain : Type 0
 CoresHaveAMain =
-    (tree : UnitTree) (typed : TypedText) (P : Program) → Sound tree → IsTypedText tree typed
-    → IsCore typed P → P.main < length P.bodies
+    (tree : UnitTree) (checked : CheckedText) (P : Program) → Sound tree →
+    IsCheckedText tree checked → IsCore checked P → P.main < length P.bodies
 
 abbrev pub CellsStartInRange : Type 0
 CellsStartInRange =
-    (tree : UnitTree) (typed : TypedText) (P : Program) → Sound tree → IsTypedText tree typed
-    → IsCore typed P → AllByRecursion (λ cell. IsInRange cell.ty cell.start) P.cells
+    (tree : UnitTree) (checked : CheckedText) (P : Program) → Sound tree →
+    IsCheckedText tree checked
+    → IsCore checked P → AllByRecursion (λ cell. IsInRange cell.ty cell.start) P.cells
 
 abbrev pub JumpsAreKept : Type 0
 JumpsAreKept =
-    (tree : UnitTree) (typed : TypedText) → IsTypedText tree typed
-    → map tree_jumps typed.trees ≡ map function_jumps (unit_functions tree)
+    (tree : UnitTree) (checked : CheckedText) → IsCheckedText tree checked
+    → map tree_jumps checked.trees ≡ map function_jumps (unit_functions tree)
 
 abbrev pub StatementsAreOfTrees : Type 0
 StatementsAreOfTrees =
-    (tree : UnitTree) (typed : TypedText) (P : Program) → IsTypedText tree typed → IsCore typed P
-    → (n : ℕ) (s : Stmt) → IsStmt P n s → IsOfTree typed.trees P n s
+    (tree : UnitTree) (checked : CheckedText) (P : Program) → IsCheckedText tree checked →
+    IsCore checked P → (n : ℕ) (s : Stmt) → IsStmt P n s → IsOfTree checked.trees P n s
 
 abbrev pub JumpsAreSound : Type 0
 JumpsAreSound =
-    (tree : UnitTree) (typed : TypedText) (P : Program) → Sound tree → IsTypedText tree typed
-    → IsCore typed P → (n : ℕ) (s : Stmt) → IsStmt P n s → JumpIsSound P n s
+    (tree : UnitTree) (checked : CheckedText) (P : Program) → Sound tree →
+    IsCheckedText tree checked
+    → IsCore checked P → (n : ℕ) (s : Stmt) → IsStmt P n s → JumpIsSound P n s
 
 abbrev pub LabelsAreInOrder : Type 0
 LabelsAreInOrder = (tree : UnitTree) → Sound tree → AllByRecursion AreInOrder (unit_functions tree)

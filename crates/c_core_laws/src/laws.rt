@@ -1,4 +1,4 @@
-//! Laws on the core of a typed text: functions with an empty body, whose contract is the law.
+//! Laws on the core of a checked text: functions with an empty body, whose contract is the law.
 //! The laws are stated in `specs/Laws.antt` and proved in `proofs/`.
 ghost use Rattle.c_core_laws.specs.Laws.{CoresAreNumbered, CoresAreSmall, OneCore};
 ghost use Rattle.c_core_laws.specs.Laws.{CellsStartInRange, CoresHaveAMain, JumpsAreKept};
@@ -6,7 +6,7 @@ ghost use Rattle.c_core_laws.specs.Laws.{FramesAreThere, JumpsAreSound};
 ghost use Rattle.c_core_laws.specs.Laws.{GotosGoToLabels, LabelsAreBlocks, LabelsAreInOrder};
 ghost use Rattle.c_core_laws.specs.Laws.{StatementsAreOfTrees};
 
-/// A typed text has one core.
+/// A checked text has one core.
 pub fn there_is_one_core()
     ensures { OneCore }
 {}

@@ -1,4 +1,4 @@
-//! Laws of the core of a typed text (`IsCore` of `c_core_checked`): there is one, it is numbered,
+//! Laws of the core of a checked text (`IsCore` of `c_core_checked`): there is one, it is numbered,
 //! and what it has of a sound text. Proved in `proofs/`.
 #![tactic(auto)]
 

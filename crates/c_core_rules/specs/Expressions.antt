@@ -275,7 +275,7 @@ cast_rows origin _ operand =
 -- an expression with rows for each part of it
 abbrev pub rows_step : Frames → TypedExpression-F Rows ReadSuffix → Rows
 rows_step frames (TypedExpression-F.Name found place) = name_rows place found
--- an integer has the type that the typed text gives it (6.4.4.1p5), a character int (6.4.4.4p10)
+-- an integer has the type that the typed tree gives it (6.4.4.1p5), a character int (6.4.4.4p10)
 rows_step frames (TypedExpression-F.Number t n place) = plain place (gives (pure (Const t n)))
 rows_step frames (TypedExpression-F.Character n place) = plain place (gives (pure (Const ty.I32 n)))
 -- 6.5.1p5

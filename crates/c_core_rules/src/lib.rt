@@ -1,4 +1,4 @@
-//! The rules by which a typed text becomes a program of core statements (`specs/`), and the values
+//! The rules by which a typed tree becomes trees of core statements (`specs/`), and the values
 //! and places that they speak of.
 #![tactic(auto)]
 

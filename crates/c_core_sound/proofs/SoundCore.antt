@@ -52,8 +52,8 @@ use Rattle.c_core_rules.specs.Expressions.{Frame, Frames, frame_at}
 use Rattle.c_core_rules.specs.Statements.{function_rule}
 use Rattle.c_core_rules.specs.Programs.{frames_of}
 use Rattle.c_core_rules_laws.specs.Layouts.{file_cells, AreFirst}
-use Rattle.c_core_checked.specs.declared.text.TypedText.{TypedText}
-use Rattle.c_core_checked.specs.Texts.{IsTypedText, IsCore, unit_core}
+use Rattle.c_core_checked.specs.declared.text.CheckedText.{CheckedText}
+use Rattle.c_core_checked.specs.Texts.{IsCheckedText, IsCore, unit_core}
 use Rattle.c_core_checked.specs.Sound.{Sound}
 use Rattle.c_core_laws.specs.Sizes.{stmt_height}
 use Rattle.c_core_laws.specs.Starts.{FrameStands}
@@ -363,11 +363,11 @@ module _ (walks : (text : Text) (one : BlockItem) → (grown text one).walk ≡ 
       )
 
   sound_at : FramesAreThere → StatementsAreOfTrees → CoresAreNumbered → CoresAreSmall →
-      JumpsAreSound → (tree : UnitTree) (typed : TypedText) (P : Program) → IsWhole tree →
-      Sound tree → IsTypedText tree typed → IsCore typed P →
+      JumpsAreSound → (tree : UnitTree) (checked : CheckedText) (P : Program) → IsWhole tree →
+      Sound tree → IsCheckedText tree checked → IsCore checked P →
       length (unit_functions tree) ≡ length P.bodies → (n : ℕ) (s : Stmt) → IsStmt P n s →
       IsSound P n s
-  sound_at frames_there of_trees numbered small jumps tree typed P whole sound of is many n s at =
+  sound_at frames_there of_trees numbered small jumps tree checked P whole sound of is many n s at =
       let text = text_of tree.items in
       let firsts = of.first_cells in
       let frames = frames_of firsts (unit_functions tree) in
@@ -376,45 +376,46 @@ module _ (walks : (text : Text) (one : BlockItem) → (grown text one).walk ≡ 
       let bodies = length (unit_functions tree) in
       let starts = (file_cells (unit_globals tree)).starts in
       let last = (items_behind text tree.items nothing_before).names in
-      let fit : Fit all calls bodies frames text starts last 0 typed.trees =
+      let fit : Fit all calls bodies frames text starts last 0 checked.trees =
       subst (Fit all calls bodies frames text starts last 0) (sym of.trees)
       (trees_fit frames_there tree firsts of.are_first whole sound) in
-      let N = numbered tree typed P of is in
+      let N = numbered tree checked P of is in
       let g = ground all calls bodies frames text starts last in
-      let fits_of : (m : ℕ) (t : Stmt) (r : IsOfTree typed.trees P m t) →
+      let fits_of : (m : ℕ) (t : Stmt) (r : IsOfTree checked.trees P m t) →
       HeadFits (g r.function) r.placed.head =
       λ m t r. subst (λ k. HeadFits (g k) r.placed.head) (none_first r.function)
       (all_at (λ (p : Placed). HeadFits (g (0 + r.function)) p.head) (statements r.tree) r.index
-      r.placed (fit_at all calls bodies frames text starts last 0 typed.trees r.function
+      r.placed (fit_at all calls bodies frames text starts last 0 checked.trees r.function
       r.tree fit r.is_tree).all r.among) in
       let called : (a m b : ℕ) → InFunction P a m → IsStmt P m (stmt.Call b) → Calls calls a b =
       λ a m b inside here.
-      let r = of_trees tree typed P of is m (stmt.Call b) here in
+      let r = of_trees tree checked P of is m (stmt.Call b) here in
       let h = call_head r.labels r.placed.head r.parts b r.is in
       subst (λ k. Calls calls k b) (one_function P N r.function a m r.inside inside)
       ((subst (HeadFits (g r.function)) h (fits_of m (stmt.Call b) r)).0) in
-      let r = of_trees tree typed P of is n s at in
+      let r = of_trees tree checked P of is n s at in
       let cells : all ≡ types_of P.cells = ap types_of (sym (is.cells ∙ of.cells)) in
       let tall : stmt_height s ≤ MAX_HEIGHT =
       all_at (λ (t : Stmt). stmt_height t ≤ MAX_HEIGHT) P.stmts n s
-      (small tree typed P sound of is).heights at in
+      (small tree checked P sound of is).heights at in
       subst (IsSound P n) (sym r.is) (by_head P (g r.function) n r.labels r.placed.head r.parts
       cells
       (fits_of n s r) (subst (λ (t : Stmt). stmt_height t ≤ MAX_HEIGHT) r.is tall)
-      (subst (JumpIsSound P n) r.is (jumps tree typed P sound of is n s at))
+      (subst (JumpIsSound P n) r.is (jumps tree checked P sound of is n s at))
       (λ f lands. call_sound tree P sound N bodies many called r.function n f r.inside lands))
 
 pub well_formed : FramesAreThere → StatementsAreOfTrees → CoresAreNumbered → CoresAreSmall →
-    JumpsAreSound → CoresHaveAMain → CellsStartInRange → (tree : UnitTree) (typed : TypedText)
-    (P : Program) → IsWhole tree → Sound tree → IsTypedText tree typed → IsCore typed P →
+    JumpsAreSound → CoresHaveAMain → CellsStartInRange → (tree : UnitTree) (checked : CheckedText)
+    (P : Program) → IsWhole tree → Sound tree → IsCheckedText tree checked → IsCore checked P →
     IsWellFormed P
-well_formed frames_there of_trees numbered small jumps main starts tree typed P whole sound of is =
+well_formed frames_there of_trees numbered small jumps main starts tree checked P whole sound of is
+    =
     record {
-      numbered = numbered tree typed P of is;
-      sound = sound_at same_walk frames_there of_trees numbered small jumps tree typed P whole sound
-          of is (sym (bodies_are tree typed P of is));
-      starts = starts tree typed P sound of is;
-      few_cells = (small tree typed P sound of is).cells;
-      few_points = (small tree typed P sound of is).points;
-      main = main tree typed P sound of is;
+      numbered = numbered tree checked P of is;
+      sound = sound_at same_walk frames_there of_trees numbered small jumps tree checked P whole
+          sound of is (sym (bodies_are tree checked P of is));
+      starts = starts tree checked P sound of is;
+      few_cells = (small tree checked P sound of is).cells;
+      few_points = (small tree checked P sound of is).points;
+      main = main tree checked P sound of is;
     }

@@ -6,8 +6,8 @@ use Rattle.c_lexer.specs.declared.token.Token.{Token}
 use Rattle.c_lexer.specs.Parts.{Tokens}
 use Rattle.c_grammar_tree.specs.declared.item.Unit.{Unit as UnitTree}
 use Rattle.c_grammar_tree.specs.Grammar.{Tree}
-use Rattle.c_core_checked.specs.declared.text.TypedText.{TypedText}
-use Rattle.c_core_checked.specs.Texts.{IsTypedText, IsCore}
+use Rattle.c_core_checked.specs.declared.text.CheckedText.{CheckedText}
+use Rattle.c_core_checked.specs.Texts.{IsCheckedText, IsCore}
 use Rattle.c_core_checked.specs.Sound.{Sound}
 use Rattle.c_core_sound.specs.Whole.{IsWhole}
 
@@ -18,11 +18,11 @@ TextsAreWhole =
 
 abbrev pub WholeCores : Type 0
 WholeCores =
-    (tree : UnitTree) (typed : TypedText) (P : Program) → IsWhole tree → Sound tree
-    → IsTypedText tree typed → IsCore typed P → IsWellFormed P
+    (tree : UnitTree) (checked : CheckedText) (P : Program) → IsWhole tree → Sound tree
+    → IsCheckedText tree checked → IsCore checked P → IsWellFormed P
 
 abbrev pub CoresAreWellFormed : Type 0
 CoresAreWellFormed =
-    (text : List ℕ) (tokens : List Token) (tree : UnitTree) (typed : TypedText) (P : Program)
-    → Tokens text tokens → Tree text tokens tree → Sound tree → IsTypedText tree typed
-    → IsCore typed P → IsWellFormed P
+    (text : List ℕ) (tokens : List Token) (tree : UnitTree) (checked : CheckedText) (P : Program)
+    → Tokens text tokens → Tree text tokens tree → Sound tree → IsCheckedText tree checked
+    → IsCore checked P → IsWellFormed P

@@ -1,4 +1,4 @@
-//! The layout of a typed text: which cells its core has, and where those of each function begin; or
+//! The layout of a typed tree: which cells its core has, and where those of each function begin; or
 //! that its core is larger than a program may be. The rules are those of `c_core_rules`.
 #![tactic(auto)]
 

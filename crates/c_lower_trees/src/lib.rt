@@ -1,4 +1,4 @@
-//! The trees of core statements that a typed text becomes. The rules are those of `c_core_rules`,
+//! The trees of core statements that a typed tree becomes. The rules are those of `c_core_rules`,
 //! one function for each.
 #![tactic(auto)]
 

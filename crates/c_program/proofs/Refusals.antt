@@ -12,8 +12,8 @@ use Rattle.c_parser.specs.Faults.{IsRefused as NoTreeRefused}
 use Rattle.c_grammar_tree.specs.declared.item.Unit.{Unit as UnitTree}
 use Rattle.c_grammar_tree.specs.Grammar.{Tree}
 use Rattle.c_grammar_tree.specs.Faults.{IsTreeFault}
-use Rattle.c_core_checked.specs.declared.text.TypedText.{TypedText}
-use Rattle.c_core_checked.specs.Texts.{IsTypedText, IsCore, AreOrigins}
+use Rattle.c_core_checked.specs.declared.text.CheckedText.{CheckedText}
+use Rattle.c_core_checked.specs.Texts.{IsCheckedText, IsCore, AreOrigins}
 use Rattle.c_core_checked.specs.Sound.{IsFirstBroken, IsChecked}
 use Rattle.cpa_model.specs.declared.program.Program.{Program}
 use Rattle.cpa_model.specs.Programs.{IsWellFormed}
@@ -43,13 +43,14 @@ TreeOrFault =
 abbrev pub TokensOrFault : Type 0
 TokensOrFault = (bytes : List ℕ) (fault : TextFault) → HasFault bytes fault → NoTokens bytes
 
--- a tree has one typed text
+-- a tree has one checked text
 abbrev pub OneText : Type 0
-OneText = (tree : UnitTree) (a b : TypedText) → IsTypedText tree a → IsTypedText tree b → a ≡ b
+OneText = (tree : UnitTree) (a b : CheckedText) → IsCheckedText tree a → IsCheckedText tree b →
+    a ≡ b
 
--- a typed text has one core
+-- a checked text has one core
 abbrev pub CoreOnce : Type 0
-CoreOnce = (typed : TypedText) (P Q : Program) → IsCore typed P → IsCore typed Q → P ≡ Q
+CoreOnce = (checked : CheckedText) (P Q : Program) → IsCore checked P → IsCore checked Q → P ≡ Q
 
 -- bytes stand for one program
 abbrev pub OneProgram : Type 0
@@ -72,11 +73,12 @@ same_tree lists trees bytes ts us u v f r g s =
 pub one : OneList → OneTree → OneText → CoreOnce → (bytes : List ℕ) (P Q : Program)
     → IsProgram bytes P → IsProgram bytes Q → P ≡ Q
 one lists trees texts cores bytes P Q p q =
-    let own = subst (λ u. IsTypedText u q.typed)
+    let own = subst (λ u. IsCheckedText u q.checked)
     (same_tree lists trees bytes q.tokens p.tokens q.tree p.tree q.falls q.reads p.falls p.reads)
     q.of_tree in
-    cores p.typed P Q p.core
-    (subst (λ (t : TypedText). IsCore t Q) (texts p.tree q.typed p.typed own p.of_tree) q.core)
+    cores p.checked P Q p.core
+    (subst (λ (t : CheckedText). IsCore t Q) (texts p.tree q.checked p.checked own p.of_tree)
+    q.core)
 
 pub none : OneList → OneTree → TreeOrFault → TokensOrFault → FaultOrProgram
 none lists trees apart either bytes fault (no_tokens f) P p = either bytes fault f p.tokens p.falls
@@ -111,34 +113,34 @@ check_refused law bytes tree OutOfMemory of is = tt
 
 -- the core of a sound tree is the program
 pub the_program : OneProgram → WellFormed → (bytes : List ℕ) (tree : UnitTree)
-    (typed : TypedText) (P : Program)
-    → IsTreeOf bytes tree → IsChecked tree (Ok typed) → IsCore typed P → IsTheProgram bytes P
-the_program law sound bytes tree typed P of checked core =
+    (checked : CheckedText) (P : Program)
+    → IsTreeOf bytes tree → IsChecked tree (Ok checked) → IsCore checked P → IsTheProgram bytes P
+the_program law sound bytes tree checked P of is_checked core =
     let is : IsProgram bytes P = record {
       tokens = of.tokens;
       tree = tree;
-      typed = typed;
+      checked = checked;
       falls = of.falls;
       reads = of.reads;
-      sound = checked.0;
-      of_tree = checked.1;
+      sound = is_checked.0;
+      of_tree = is_checked.1;
       core = core;
     } in
     record {
       is = is;
       only = λ Q q. law bytes Q P q is;
-      length_is = core.text_len ∙ checked.1.text_len ∙ of.reads.length_is;
+      length_is = core.text_len ∙ is_checked.1.text_len ∙ of.reads.length_is;
       well_formed = sound bytes P is;
     }
 
 -- and where it comes from is what the rules give for the text
-pub the_origins : (bytes : List ℕ) (tree : UnitTree) (typed : TypedText) (points : List ℕ)
-    (cells : List (Option ℕ)) → IsTreeOf bytes tree → IsChecked tree (Ok typed)
-    → AreOrigins typed points cells → AreTheOrigins bytes points cells
-the_origins bytes tree typed points cells of checked origins = record {
+pub the_origins : (bytes : List ℕ) (tree : UnitTree) (checked : CheckedText) (points : List ℕ)
+    (cells : List (Option ℕ)) → IsTreeOf bytes tree → IsChecked tree (Ok checked)
+    → AreOrigins checked points cells → AreTheOrigins bytes points cells
+the_origins bytes tree checked points cells of is_checked origins = record {
   tree = tree;
-  typed = typed;
+  checked = checked;
   of = of;
-  of_tree = checked.1;
+  of_tree = is_checked.1;
   origins = origins;
 }

@@ -10,23 +10,23 @@ use Rattle.c_lexer.specs.Faults.{HasFault}
 use Rattle.c_grammar_tree.specs.declared.item.Unit.{Unit as UnitTree}
 use Rattle.c_grammar_tree.specs.Grammar.{Tree}
 use Rattle.c_grammar_tree.specs.Faults.{IsTreeFault}
-use Rattle.c_core_checked.specs.declared.text.TypedText.{TypedText}
-use Rattle.c_core_checked.specs.Texts.{IsTypedText, IsCore, AreOrigins}
+use Rattle.c_core_checked.specs.declared.text.CheckedText.{CheckedText}
+use Rattle.c_core_checked.specs.Texts.{IsCheckedText, IsCore, AreOrigins}
 use Rattle.c_core_checked.specs.Sound.{Sound, IsFirstBroken}
 use Rattle.cpa_model.specs.declared.program.Program.{Program}
 use Rattle.cpa_model.specs.Programs.{IsWellFormed}
 
--- the bytes fall into tokens, these have a tree, it breaks no rule, and P is the core of its typed
--- text
+-- the bytes fall into tokens, these have a tree, it breaks no rule, and P is the core of its
+-- checked text
 pub record IsProgram (bytes : List ℕ) (P : Program) : Type 0 where
   pub tokens : List Token
   pub tree : UnitTree
-  pub typed : TypedText
+  pub checked : CheckedText
   pub falls : Tokens bytes tokens
   pub reads : Tree bytes tokens tree
   pub sound : Sound tree
-  pub of_tree : IsTypedText tree typed
-  pub core : IsCore typed P
+  pub of_tree : IsCheckedText tree checked
+  pub core : IsCore checked P
 
 -- P is the one program of the bytes; it has their length, and it is well formed
 pub record IsTheProgram (bytes : List ℕ) (P : Program) : Type 0 where
@@ -42,13 +42,13 @@ pub record IsTreeOf (bytes : List ℕ) (tree : UnitTree) : Type 0 where
   pub reads : Tree bytes tokens tree
 
 -- where the points and the cells of the program of the bytes come from: what the rules give for
--- the typed text of the tree of the bytes
+-- the checked text of the tree of the bytes
 pub record AreTheOrigins (bytes points : List ℕ) (cells : List (Option ℕ)) : Type 0 where
   pub tree : UnitTree
-  pub typed : TypedText
+  pub checked : CheckedText
   pub of : IsTreeOf bytes tree
-  pub of_tree : IsTypedText tree typed
-  pub origins : AreOrigins typed points cells
+  pub of_tree : IsCheckedText tree checked
+  pub origins : AreOrigins checked points cells
 
 -- the fault of the bytes: that of the tokens where there are none, else that of the tree where
 -- there is none, else the first broken rule

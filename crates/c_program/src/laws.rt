@@ -6,7 +6,7 @@ ghost use Rattle.cpa_model.specs.declared.program.Program.{Program};
 ghost use Rattle.cpa_model.specs.Programs.{IsWellFormed};
 ghost use Rattle.c_program.specs.Programs.{IsProgram, IsTextFault, NoProgram};
 
-use c_core_checked::there_is_one_typed_text;
+use c_core_checked::there_is_one_checked_text;
 use c_core_laws::there_is_one_core;
 use c_core_sound::cores_are_well_formed;
 use c_grammar_tree::{no_tree_has_a_fault, one_tree};
@@ -18,7 +18,7 @@ pub fn one_program()
 {
     one_token_list();
     one_tree();
-    there_is_one_typed_text();
+    there_is_one_checked_text();
     there_is_one_core();
 }
 

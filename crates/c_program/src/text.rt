@@ -40,8 +40,8 @@ pub fn traced_program(alloc: Global, bytes: &[u8]) -> Result<Traced, TextError>
     one_program();
     programs_are_well_formed();
     let tree = tree(alloc, bytes)?;
-    let typed = check(alloc, &tree)?;
-    Ok(trace(alloc, typed)?)
+    let checked = check(alloc, &tree)?;
+    Ok(trace(alloc, checked)?)
 }
 
 /// The program alone, or the fault of the bytes.

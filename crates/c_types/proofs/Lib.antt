@@ -2,6 +2,6 @@ pub mod Law
 pub mod Steps
 pub mod Entries
 pub mod Listed
-pub mod Typed
+pub mod Checked
 pub mod Next
 pub mod Numbers

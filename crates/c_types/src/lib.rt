@@ -1,5 +1,5 @@
-//! The rules of names and types, and of a text's size: the typed text of a tree that breaks none of
-//! them, or the first broken rule (`IsChecked` of `c_core_checked`, `specs/Sound.antt`).
+//! The rules of names and types, and of a text's size: the checked text of a tree that breaks none
+//! of them, or the first broken rule (`IsChecked` of `c_core_checked`, `specs/Sound.antt`).
 #![tactic(auto)]
 
 mod entry;

@@ -1,5 +1,5 @@
 //! What a check of a text finds (`IsOutcome` of `specs/Outcomes.antt`). Proved with `proofs/Law`
-//! and `proofs/Typed`.
+//! and `proofs/Checked`.
 ghost use Rattle.std.specs.Prelude.{◌≡◌, None, IfOk};
 ghost use Rattle.c_types_rules.specs.Items.{text_of, nothing_before};
 ghost use Rattle.c_types_rules.specs.Sound.{items_behind, starts_of, functions_of, BreaksTree};
@@ -12,7 +12,7 @@ use crate::entry::MAIN;
 use crate::gathering::gather;
 use crate::items::Gathered;
 use crate::listing::globals_of;
-use c_core_checked::TypedText;
+use c_core_checked::CheckedText;
 use c_grammar_tree::Unit;
 use c_lexer::{Rule, TextFault};
 use c_lower_layout::{CoreError, TextLayout, layout};
@@ -21,10 +21,10 @@ use c_types_rules::{Global, TypedFunction};
 use cpa_ints::{DataModel, Seq};
 use std::alloc::{AllocError, Global as Memory};
 
-/// A typed text, or the first broken rule.
+/// A checked text, or the first broken rule.
 #[derive(Drop)]
 pub(crate) enum Outcome {
-    Sound(TypedText),
+    Sound(CheckedText),
     Broken(TextFault),
 }
 
@@ -77,7 +77,7 @@ fn outcome_of(
         })),
         Some(layout) => {
             let ends = ends_of(alloc, functions)?;
-            Ok(Outcome::Sound(TypedText {
+            Ok(Outcome::Sound(CheckedText {
                 cells: layout.cells,
                 names: layout.names,
                 trees: layout.trees,

@@ -1,9 +1,9 @@
 -- The layout that is found is that of the text.
 use Rattle.std.proofs.Common.{refl, subst}
-use Rattle.c_core_checked.specs.declared.text.TypedText.{TypedText}
+use Rattle.c_core_checked.specs.declared.text.CheckedText.{CheckedText}
 use Rattle.c_types.specs.Outcomes.{IsFoundLayout}
 use Rattle.c_types.proofs.Law.{large_checked, sound_checked}
-use Rattle.c_types.proofs.Typed.{typed_is, unit_laid_out, unit_too_large}
+use Rattle.c_types.proofs.Checked.{checked_is, unit_laid_out, unit_too_large}
 use Rattle.c_types.proofs.outcome.outcome_of.Goals as goal
 
 pub returns-in-None : goal.returns-in-None
@@ -21,7 +21,7 @@ returns-in_ok-ends-in-Some c =
     let functions = c.args.functions.now in
     let layout = c.in-Some.layout in
     let laid_out = subst (IsFoundLayout globals functions) c.in-Some.is c.in_ok-found.ensures in
-    let typed : TypedText = record {
+    let checked : CheckedText = record {
       cells = layout.cells;
       names = layout.names;
       trees = layout.trees;
@@ -32,7 +32,7 @@ returns-in_ok-ends-in-Some c =
       sound_checked unit c.requires.first layout.first_cells
           (unit_laid_out unit globals functions layout c.requires.globals c.requires.functions
           laid_out).within,
-      typed_is unit globals functions layout typed c.requires.globals c.requires.functions laid_out
-          laid_out.cells laid_out.names laid_out.trees c.in_ok-ends-in-Some.ensures
+      checked_is unit globals functions layout checked c.requires.globals c.requires.functions
+          laid_out laid_out.cells laid_out.names laid_out.trees c.in_ok-ends-in-Some.ensures
           c.requires.main refl,
     )

@@ -1,4 +1,0 @@
-mod Closes
-mod GoesOn
-mod PlainExpressions
-mod PlainText

@@ -1,6 +1,0 @@
-mod Spells
-mod Spelt
-mod Equations
-mod SpeltExpressions
-mod SpeltText
-mod SpeltItems

@@ -1,0 +1,11 @@
+mod Closes
+mod GoesOn
+mod PlainExpressions
+mod PlainText
+mod Spells
+mod Spelt
+mod Equations
+mod SpeltExpressions
+mod SpeltText
+mod SpeltItems
+mod Regrown
