@@ -3,3 +3,4 @@
 pub mod Leading
 pub mod Taking
 pub mod Keeping
+pub mod Paths

@@ -53,6 +53,7 @@ use Rattle.cpa_interpolant_rules.specs.Interpolants.{LeadsTo, HasNoRun, ReadsSha
 use Rattle.cpa_interpolant_rules.specs.Interpolants.{IsNext}
 use Rattle.cpa_interpolant_rules.specs.Parts.{added_before, added_behind}
 use Rattle.cpa_interpolant_rules.specs.lemmas.Taking.{runs_of, starts_in, run_before}
+use Rattle.cpa_interpolant_rules.specs.lemmas.Taking.{has_value}
 use Rattle.cpa_interpolant_cuts.specs.Cuts.{meetings_of, formula_of}
 use Rattle.cpa_interpolant_cuts.specs.Cuts.{sides_at, shared_bits_of, expr_of}
 use Rattle.cpa_interpolant_cuts.specs.lemmas.Meet.{AreParts, cell_of, before_bit, behind_bit}
@@ -92,10 +93,6 @@ one_truth : (o : Option ℤ) → IsSomeAnd o (λ a. is_nonzero a ≡ true)
     → IsSomeAnd o (λ a. is_nonzero a ≡ false) → ⊥
 one_truth None h k = absurd h
 one_truth (Some a) h k = absurd (cc)
-
-has_value : (o : Option ℤ) (b : Bool) → IsSomeAnd o (λ a. is_nonzero a ≡ b) → IsSome o
-has_value None b h = absurd h
-has_value (Some a) b h = refl
 
 -- ---- what is read
 
