@@ -1,6 +1,7 @@
 -- Where the queries of one edge have no model, each step leads on; where that of a trap has none,
 -- no store of the cells makes the expression trap.
-use Rattle.std.proofs.Common.{◌≡◌, ℤ, true, false, List, [], ◌∷◌, refl, sym, append-nil}
+use Rattle.std.proofs.Common.{◌≡◌, ℤ, true, false, List, [], ◌∷◌, ◌++◌, refl, sym, subst}
+use Rattle.std.proofs.Common.{append-nil}
 use Rattle.std.specs.Prelude.{◌⊎◌, IsSome}
 use Rattle.std.specs.List.{AllByRecursion}
 use Rattle.std.proofs.Common.{inl, inr}
@@ -13,14 +14,15 @@ use Rattle.cpa_model.specs.Automata.{IsAutomaton}
 use Rattle.cpa_model.specs.Expressions.{IsExpr}
 use Rattle.cpa_query.specs.Queries.{IsQuery}
 use Rattle.cpa_form_rules.specs.Runs.{Added, taken, holding, failing, StoreHolds, StoreFails}
-use Rattle.cpa_form_rules.specs.Forms.{form_of}
-use Rattle.cpa_form_rules.specs.Laws.{FormsAreRuns, IsFormOf}
+use Rattle.cpa_form_rules.specs.Forms.{Form, begun, with_added}
+use Rattle.cpa_form_rules.specs.Laws.{FormsAreRuns, IsAddedOf, IsFormOf}
+use Rattle.cpa_form_rules.specs.Additions.{AddingGoesOn}
 use Rattle.cpa_form_rules.specs.Stores.{FailingIsNotHolding, StepsTakeInputs}
 use Rattle.cpa_solver.specs.Decisions.{HasNoModel}
 use Rattle.cpa_interpolant_rules.specs.Stores.{IsStore, StepsBy}
 use Rattle.cpa_interpolant_rules.specs.Interpolants.{LeadsTo, NeverTraps}
-use Rattle.cpa_interpolant_rules.specs.Parts.{told, added_behind}
-use Rattle.cpa_interpolant_rules.specs.lemmas.Taking.{has_value}
+use Rattle.cpa_interpolant_rules.specs.Parts.{told, added_behind, behind_cut}
+use Rattle.cpa_interpolant_rules.specs.lemmas.Taking.{all_taken, has_value}
 use Rattle.cpa_interpolant_words.specs.Words.{alone, against, trapping}
 
 module _ (forms : FormsAreRuns) (cfa : Cfa) (automaton : IsAutomaton cfa) (f : Expr)
@@ -88,3 +90,17 @@ module _ (forms : FormsAreRuns) (cfa : Cfa) (automaton : IsAutomaton cfa) (f : E
           → IsSome (value_of f store)
       by (inl nonzero) = has_value (value_of f store) true nonzero.0
       by (inr not) = other not (fails.either store (alone f false))
+
+  -- what is asked behind edges may be asked
+  pub behind_asked : AddingGoesOn → (acts : List Act) → AllByRecursion (IsActOf cfa) acts
+      → IsQuery (with_added (failing (alone f true ∷ [])) (behind_cut cfa.cells acts)).query
+  behind_asked goes acts fit =
+      subst (λ (form : Form). IsQuery form.query)
+      (goes.form (begun cfa.cells false) (added_behind acts) (failing (alone f true ∷ []) ∷ []))
+      (forms cfa false (added_behind acts ++ failing (alone f true ∷ []) ∷ []) automaton
+      (joined (added_behind acts) (all_taken cfa acts fit))).asked
+    where
+      joined : (added : List Added) → AllByRecursion (IsAddedOf cfa) added
+          → AllByRecursion (IsAddedOf cfa) (added ++ failing (alone f true ∷ []) ∷ [])
+      joined [] all = (((typed, tt), tt), tt)
+      joined (one ∷ added) all = (all.0, joined added all.1)

@@ -46,13 +46,7 @@ pub(crate) fn nonzero(alloc: Global, e: &Expr) -> Result<Vec<Elem>, AllocError>
 }
 
 /// The form that says that `e` is nonzero, the edge is taken, and `f` is not nonzero then.
-fn against(
-    alloc: Global,
-    cfa: &Cfa,
-    e: &Expr,
-    edge: u32,
-    f: &Expr,
-) -> Result<EdgeForm, AllocError>
+fn against(alloc: Global, cfa: &Cfa, e: &Expr, edge: u32, f: &Expr) -> Result<EdgeForm, AllocError>
     requires edge { edge < length cfa.now.edges }
     ensures { (g : AnEdge) → slice_get cfa.now.edges edge ≡ Some g
         → IfOk result (λ form. form ≡ against cfa.now.cells e.now g.act f.now) }

@@ -11,9 +11,11 @@ use crate::asking::{Asked, Limits, ask};
 use crate::checking::{is_zero, leads, nonzero};
 use crate::forms::part_behind;
 use crate::reading::act_writes;
-use cpa_expr::{CmpOp, Expr, both, comparison, constant, copied, either, may_read, negation};
-use cpa_expr::{replace_cell, same_expr, size};
-use cpa_form_rules::forms_are_runs;
+use cpa_expr::{
+    CmpOp, Expr, both, comparison, constant, copied, either, may_read, negation, replace_cell,
+    same_expr, size,
+};
+use cpa_form_rules::{adding_goes_on, forms_are_runs};
 use cpa_ints::{Boxed, IntType};
 use cpa_model::{Act, Cfa, edges_are_sound, is_expr, steps_keep_states};
 use std::alloc::{AllocError, Global};
@@ -91,6 +93,7 @@ fn holds_behind(
         return Ok(false);
     }
     forms_are_runs();
+    adding_goes_on();
     edges_are_sound();
     steps_keep_states();
     let failing = nonzero(alloc, e)?;
