@@ -307,11 +307,6 @@ some_long cfa path inside h =
 
 -- ---- the path behind the next cut
 
--- the path behind an edge, as a slice of the path
-pub whole_rest : (path : List ℕ) (k : ℕ) → take (length path - k) (drop k path) ≡ drop k path
-whole_rest path k =
-    take_all (length path - k) (drop k path) (let long = length-drop k path in omega (arith, long))
-
 -- what is answered at a place of the path is the answer at the next cut
 pub at_next : (cfa : Cfa) (learnt gates : ℕ) (path : List ℕ) (exprs : List Expr) (i k : ℕ)
     (rest : List ℕ) (e : Expr) (found : Answer)

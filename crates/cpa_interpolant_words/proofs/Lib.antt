@@ -1,4 +1,4 @@
 pub mod Edges
 pub mod Steps
-pub mod Reads
+pub mod SharedCells
 pub mod Whole

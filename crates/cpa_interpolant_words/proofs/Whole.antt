@@ -1,10 +1,12 @@
 -- Steps of which the last leads to 0 are interpolants of the path.
 use Rattle.std.proofs.Common.{◌≡◌, ℕ, zero, suc, ◌+◌, ◌-◌, ◌<◌, ◌≤◌, ◌^◌, min, List, [], ◌∷◌, length}
-use Rattle.std.proofs.Common.{map, sum, refl, sym, ap, ◌∙◌, subst, arith, get_or, drop}
+use Rattle.std.proofs.Common.{Some, slice_get, map, sum, refl, sym, ap, ◌∙◌, subst, arith, get_or, drop}
 use Rattle.std.specs.List.{AllByRecursion}
+use Rattle.std.proofs.lemmas.List.{drop_more}
 use Rattle.cpa_expr.specs.declared.tree.Expr.{Expr}
 use Rattle.cpa_model.specs.declared.program.Cell.{Cell}
 use Rattle.cpa_model.specs.declared.automaton.Act.{Act}
+use Rattle.cpa_model.specs.declared.automaton.Edge.{Edge}
 use Rattle.cpa_model.specs.declared.automaton.Cfa.{Cfa}
 use Rattle.cpa_model.specs.Acts.{IsActOf}
 use Rattle.cpa_model.specs.Automata.{IsAutomaton}
@@ -20,8 +22,10 @@ use Rattle.cpa_interpolant_rules.specs.Laws.{InterpolantsLeaveNoRun}
 use Rattle.cpa_interpolant_rules.specs.Parts.{added_behind, behind_cut}
 use Rattle.cpa_interpolant_rules.specs.Found.{AreLight, AreFound}
 use Rattle.cpa_interpolant_rules.specs.lemmas.Taking.{all_taken}
-use Rattle.cpa_interpolant_rules.specs.lemmas.Paths.{last_at, acts_long, one_is_expr}
-use Rattle.cpa_interpolant_words.specs.Words.{AreSteps, AreStepsIn}
+use Rattle.cpa_interpolant_rules.specs.lemmas.Keeping.{AreLaws, good_path}
+use Rattle.cpa_interpolant_rules.specs.lemmas.Paths.{last_at, acts_of, acts_long, rest_in}
+use Rattle.cpa_interpolant_rules.specs.lemmas.Paths.{one_is_expr}
+use Rattle.cpa_interpolant_words.specs.Words.{IsStep, AreSteps, AreStepsIn}
 
 module _ (cells : List Cell) (gates : ℕ) where
   lead_on : (acts : List Act) (e : Expr) (fs : List Expr) → AreSteps cells gates acts e fs
@@ -107,3 +111,58 @@ weighs_more sums cfa a acts is act are =
   where
     capped : (n m top : ℕ) → min (n + m) top ≡ min (min n top + min m top) top
     capped n m top = omega arith
+
+-- ---- back over one edge
+
+-- behind the last edge there is no step
+pub none_back : (cfa : Cfa) (gates : ℕ) (edges : List ℕ) (exprs : List Expr)
+    → length exprs ≡ length edges + 1
+    → AreStepsIn cfa gates (drop (length edges) edges) (drop (length edges) exprs)
+none_back cfa gates [] [] long = absurd (omega (arith, long))
+none_back cfa gates [] (e ∷ []) long = refl
+none_back cfa gates [] (e ∷ f ∷ fs) long = absurd (omega (arith, long))
+none_back cfa gates (n ∷ ns) [] long = absurd (omega (arith, long))
+none_back cfa gates (n ∷ ns) (e ∷ fs) long = none_back cfa gates ns fs (omega (arith, long))
+
+pub one_back : (cfa : Cfa) (gates : ℕ) (edges : List ℕ) (exprs : List Expr) (p : ℕ) (g : Edge)
+    (e f : Expr) → p < length edges → length exprs ≡ length edges + 1
+    → slice_get cfa.edges (get_or edges p 0) ≡ Some g
+    → e ≡ get_or exprs p e → f ≡ get_or exprs (p + 1) f
+    → IsStep cfa.cells gates e g.act (acts_along cfa (drop (p + 1) edges)) f
+    → AreStepsIn cfa gates (drop (p + 1) edges) (drop (p + 1) exprs)
+    → AreStepsIn cfa gates (drop p edges) (drop p exprs)
+one_back cfa gates edges exprs p g e f less long at own next step rest =
+    let n = get_or edges p 0 in
+    let ns = drop (p + 1) edges in
+    let others = drop (p + 1 + 1) exprs in
+    let fs : drop (p + 1) exprs ≡ f ∷ others =
+    drop_more exprs (p + 1) f (omega (arith, less, long))
+    ∙ ap (λ (x : Expr). x ∷ others) (sym next) in
+    let es : drop p exprs ≡ e ∷ f ∷ others =
+    drop_more exprs p e (omega (arith, less, long))
+    ∙ (ap (λ (x : Expr). x ∷ drop (p + 1) exprs) (sym own) ∙ ap (λ xs. e ∷ xs) fs) in
+    let more : AreSteps cfa.cells gates (acts_along cfa ns) f others =
+    subst (AreStepsIn cfa gates ns) fs rest in
+    subst (λ ms. AreStepsIn cfa gates ms (drop p exprs)) (sym (drop_more edges p 0 less))
+    (subst (AreStepsIn cfa gates (n ∷ ns)) (sym es)
+    (subst (λ (acts : List Act). AreSteps cfa.cells gates acts e (f ∷ others))
+    (sym (acts_of cfa n ns g at)) (step, more)))
+
+-- the weight behind an edge, and so before it
+pub weight_back : WeightsAreSums → (cfa : Cfa) → AreLaws cfa → (edges : List ℕ) (p w v : ℕ)
+    (g : Edge) → AllByRecursion (λ n. n < length cfa.edges) edges → p < length edges
+    → slice_get cfa.edges (get_or edges p 0) ≡ Some g
+    → w ≡ (behind_cut cfa.cells (acts_along cfa (drop (p + 1) edges))).weight
+    → v ≡ min (min (act_weight g.act) (2 ^ 64 - 1) + w) (2 ^ 64 - 1)
+    → v ≡ (behind_cut cfa.cells (acts_along cfa (drop p edges))).weight
+weight_back sums cfa laws edges p w v g inside less at was is =
+    let ns = drop (p + 1) edges in
+    let good = good_path cfa laws ns (rest_in (length cfa.edges) edges (p + 1) inside) in
+    is
+    ∙ (ap (λ n. min (min (act_weight g.act) (2 ^ 64 - 1) + n) (2 ^ 64 - 1)) was
+    ∙ (sym (weighs_more sums cfa g.act (acts_along cfa ns) laws.automaton
+    (laws.sound (get_or edges p 0) g at).act good.fit)
+    ∙ (ap (λ (acts : List Act). (behind_cut cfa.cells acts).weight)
+    (sym (acts_of cfa (get_or edges p 0) ns g at))
+    ∙ ap (λ ms. (behind_cut cfa.cells (acts_along cfa ms)).weight)
+    (sym (drop_more edges p 0 less)))))

@@ -90,7 +90,8 @@ pub(crate) fn leads(
     failing_is_not_holding();
     edges_are_sound();
     let form = against(alloc, cfa, e, edge, f)?;
-    match ask(alloc, &form, limits)? {
+    let asked = ask(alloc, &form, limits)?;
+    match asked {
         Asked::Never => Ok(true),
         Asked::Sometimes(_) | Asked::Open => Ok(false),
     }
@@ -110,7 +111,8 @@ pub(crate) fn never_traps(
     forms_are_runs();
     failing_is_not_holding();
     let form = trapping(alloc, cfa, f)?;
-    match ask(alloc, &form, limits)? {
+    let asked = ask(alloc, &form, limits)?;
+    match asked {
         Asked::Never => Ok(true),
         Asked::Sometimes(_) | Asked::Open => Ok(false),
     }
@@ -184,6 +186,7 @@ fn are_steps(
 {
     weights_are_sums();
     edges_are_sound();
+    steps_keep_states();
     let mut weight = 0u64;
     let mut place = edges.len();
     while 0 < place {

@@ -49,15 +49,15 @@ fn opposite(op: CmpOp) -> CmpOp {
 /// An expression that is nonzero exactly where the test is zero.
 fn denied(alloc: Global, test: &Expr) -> Result<Boxed<Expr>, AllocError> {
     match test {
-        Expr::Not { arg } => copied(alloc, arg),
+        Expr::Not { arg } => copied(alloc, arg.get()),
         Expr::Cmp {
             op,
             ty,
             left,
             right,
         } => {
-            let left = copied(alloc, left)?;
-            let right = copied(alloc, right)?;
+            let left = copied(alloc, left.get())?;
+            let right = copied(alloc, right.get())?;
             comparison(alloc, opposite(*op), *ty, left, right)
         }
         _ => {
@@ -73,7 +73,7 @@ fn assumed(alloc: Global, test: &Expr, holds: bool) -> Result<Boxed<Expr>, Alloc
         return denied(alloc, test);
     }
     match test {
-        Expr::Not { arg } => denied(alloc, arg),
+        Expr::Not { arg } => denied(alloc, arg.get()),
         _ => copied(alloc, test),
     }
 }
@@ -99,7 +99,8 @@ fn holds_behind(
     let failing = nonzero(alloc, e)?;
     let mut form = part_behind(alloc, cfa, edges)?;
     form.fails_now(&failing)?;
-    match ask(alloc, &form, limits)? {
+    let asked = ask(alloc, &form, limits)?;
+    match asked {
         Asked::Never => Ok(true),
         Asked::Sometimes(_) | Asked::Open => Ok(false),
     }
@@ -226,12 +227,13 @@ fn may_change(cfa: &Cfa, act: &Act, e: &Expr) -> bool {
     }
 }
 
-/// Adds the expression, if it is not there: both parts of one that says both.
+/// Adds the expression, if it is not there.
 fn push_new(alloc: Global, es: &mut Vec<Expr>, e: Boxed<Expr>) -> Result<(), AllocError> {
     if es.iter().any(|other| same_expr(e.get(), other)) {
         return Ok(());
     }
-    es.push(e.into_inner())
+    es.push(e.into_inner())?;
+    Ok(())
 }
 
 /// What is needed before the edge for all expressions to be nonzero behind it, or None where
@@ -250,7 +252,8 @@ fn all_needed(
 {
     let mut all = Vec::new(alloc);
     for e in es {
-        match needed(alloc, cfa, before, edge, e, limits)? {
+        let need = needed(alloc, cfa, before, edge, e, limits)?;
+        match need {
             Need::Nothing => {}
             Need::Nonzero(need) => {
                 if MAX_SIZE < size(need.get()) {

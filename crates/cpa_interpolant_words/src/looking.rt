@@ -53,7 +53,8 @@ fn cuts(alloc: Global, cfa: &Cfa, path: &[u32], limits: Limits) -> Result<Words,
     requires path { AllByRecursion (λ edge. edge < length cfa.now.edges) path.now }
     ensures { IfOk result (IsFound cfa.now.cells limits.gates (acts_along cfa.now path.now)) }
 {
-    match choose(alloc, cfa, path, limits)? {
+    let chosen = choose(alloc, cfa, path, limits)?;
+    match chosen {
         None => Ok(Words::Open),
         Some(exprs) => {
             let found = are_interpolants(alloc, cfa, path, &exprs, limits)?;
@@ -87,7 +88,8 @@ pub fn look(
         return Ok(Words::Open);
     }
     let form = part_behind(alloc, cfa, path)?;
-    match ask(alloc, &form, Limits { learnt, gates })? {
+    let asked = ask(alloc, &form, Limits { learnt, gates })?;
+    match asked {
         Asked::Sometimes(store) => Ok(Words::Model(store)),
         Asked::Never => {
             let learnt = learnt.min(CANDIDATE_LINES);

@@ -1,6 +1,6 @@
 //! Which cells edges read and write, and whether an expression behind an edge reads only what both
 //! parts of the path have in common, by `ReadsShared` of `cpa_interpolant_rules`.
-//! Proved with `proofs/Reads.antt`.
+//! Proved with `proofs/SharedCells.antt`.
 
 ghost use Rattle.std.specs.Prelude.{◌≡◌, ◌<◌, length, slice_get, Some, IsTrue};
 ghost use Rattle.std.specs.List.{AllByRecursion};

@@ -1,8 +1,9 @@
 -- Acts along the edges of a path, and expressions at its cuts.
 use Rattle.std.proofs.Common.{◌≡◌, ℕ, zero, suc, ◌<◌, List, [], ◌∷◌, ◌++◌, length, drop, Option}
-use Rattle.std.proofs.Common.{Some, slice_get, get_or, refl, ap, ◌∙◌, arith, pos}
+use Rattle.std.proofs.Common.{take, ◌-◌, Some, slice_get, get_or, refl, ap, ◌∙◌, arith, pos}
 use Rattle.std.specs.List.{AllByRecursion}
 use Rattle.std.proofs.lemmas.Int.{ints}
+use Rattle.std.proofs.lemmas.List.{length-drop, take_all}
 use Rattle.cpa_ints.specs.declared.integers.IntType.TheVariants as ty
 use Rattle.cpa_expr.specs.Laws.{a_constant_is_its_number}
 use Rattle.cpa_expr.specs.declared.tree.Expr.{Expr}
@@ -40,3 +41,8 @@ pub one_is_expr : (cells : List Cell) → IsExpr cells one
 one_is_expr cells =
     (a_constant_is_its_number (types_of cells) ty.I32 (pos 1)).1
     (omega (arith, ints), omega (arith, ints))
+
+-- the path behind an edge, as a slice of the path
+pub whole_rest : (path : List ℕ) (k : ℕ) → take (length path - k) (drop k path) ≡ drop k path
+whole_rest path k =
+    take_all (length path - k) (drop k path) (let long = length-drop k path in omega (arith, long))
