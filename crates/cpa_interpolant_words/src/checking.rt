@@ -167,7 +167,8 @@ fn is_step(
     if !total {
         return Ok(false);
     }
-    leads(alloc, cfa, e, edge, f, limits)
+    let leads = leads(alloc, cfa, e, edge, f, limits)?;
+    Ok(leads)
 }
 
 /// Whether the expressions, one before each edge and one behind the last, are found to be steps
@@ -249,8 +250,11 @@ pub(crate) fn are_interpolants(
     if exprs.len() != edges.len() + 1 {
         return Ok(false);
     }
-    if !is_one(&exprs[0]) || !is_zero(&exprs[edges.len()]) {
+    let first = &exprs[0];
+    let last = &exprs[edges.len()];
+    if !is_one(first) || !is_zero(last) {
         return Ok(false);
     }
-    are_steps(alloc, cfa, edges, exprs, limits)
+    let found = are_steps(alloc, cfa, edges, exprs, limits)?;
+    Ok(found)
 }
