@@ -8,6 +8,7 @@ mod integer;
 mod item;
 mod laws;
 mod name;
+mod specifiers;
 mod statement;
 
 pub use declaration::{
@@ -19,6 +20,7 @@ pub use integer::Integer;
 pub use item::{Body, FunctionDeclarator, Item, Parameter, Parameters, Unit};
 pub use laws::{no_tree_has_a_fault, one_tree, trees_agree_through_each_token};
 pub use name::{Name, Spelling};
+pub use specifiers::{have_const, named_among};
 pub use statement::{BlockItem, ForStart, Statement};
 
 /// How deep the parts of a text may stand: this project's own limit, which bounds the stack of

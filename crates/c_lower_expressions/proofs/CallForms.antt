@@ -87,3 +87,6 @@ exit_some origin frames usage [] x taken h is = absurd (omega arith)
 exit_some origin frames usage (y ∷ xs) x taken h is =
     ap (λ e. then_by (unused (rows frames e)) (λ before.
     gives (voided usage (before ++ leaf origin head.Stop ∷ []))) taken) (sym is)
+
+-- what `call_of` of src/calls.rt proves by
+pub ruleset call_of_rules = (call_Function, call_Known, call_Object, call_Enumerator, call_None)

@@ -38,3 +38,6 @@ pub pass_past : (origin : ℕ) (before : Trees) (n : ℕ) (objects : List Object
     length xs ≡ 0 → before ++ passed origin (cells_from n objects) xs ≡ before
 pass_past origin before n objects [] h = pass_end origin before n objects
 pass_past origin before n objects (x ∷ xs) h = absurd (omega arith)
+
+-- what `passed` of src/passing.rt proves by
+pub ruleset passed_rules = (pass_step, pass_none, pass_end, pass_past)

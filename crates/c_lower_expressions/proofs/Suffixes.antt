@@ -28,6 +28,10 @@ use Rattle.c_types_rules.specs.Tables.{suffix_count}
 use Rattle.c_lower_expressions.proofs.Variants.{rows_Postfix, suffix_Index, suffix_Call}
 use Rattle.c_lower_expressions.proofs.Variants.{suffix_Step}
 use Rattle.c_lower_expressions.proofs.Variants.{suffix_Skipped}
+use Rattle.c_lower_expressions.proofs.Variants.{names_Name, names_Number, names_Character}
+use Rattle.c_lower_expressions.proofs.Variants.{names_Bracketed, names_PrefixStep, names_Unary}
+use Rattle.c_lower_expressions.proofs.Variants.{names_Cast, names_Chain, names_Conditional}
+use Rattle.c_lower_expressions.proofs.Variants.{names_Assignment, names_Comma}
 
 -- suffixes up to the one of a number are those before it, and that one behind them
 with_next : (origin : ℕ) (frames : Frames) (base : Rows) (suffixes : List TypedSuffix) (n : ℕ)
@@ -329,3 +333,20 @@ target_by frames e base first suffixes all place count n s found is f a c h g na
     ∙ ap (λ r. r.target) (front_next place frames first all count n s (omega arith) h g)
     ∙ by_suffix place frames (suffixed_by place frames first (take n all)) (suffix_of frames s)
     found named)
+
+-- what `names_of` of src/names.rt proves by
+pub ruleset names_of_rules = (
+  names_Name,
+  names_Number,
+  names_Character,
+  names_Bracketed,
+  names_PrefixStep,
+  names_Unary,
+  names_Cast,
+  names_Chain,
+  names_Conditional,
+  names_Assignment,
+  names_Comma,
+  names_base,
+  names_Postfix,
+)

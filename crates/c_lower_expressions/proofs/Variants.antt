@@ -489,3 +489,38 @@ unfolding lowered
 placed_Index origin frames fixes found index kind place taken =
     ap (λ s. placed origin fixes (suffix_target found s) taken)
     (suffix_Index frames index kind place)
+
+-- what `form_lowered` of src/expressions.rt proves by
+pub ruleset form_lowered_rules = (
+  of_Name,
+  of_Number,
+  of_Character,
+  of_Bracketed,
+  of_PrefixStep,
+  of_Unary,
+  of_Cast,
+  of_Voided,
+  of_Untyped,
+  of_Chain,
+  of_Conditional,
+  of_Assignment,
+  of_Comma,
+)
+
+-- what `placed` of src/expressions.rt proves by
+pub ruleset placed_rules = (
+  target_Name,
+  target_Number,
+  target_Character,
+  target_Bracketed,
+  target_PrefixStep,
+  target_Unary,
+  target_Cast,
+  target_Chain,
+  target_Conditional,
+  target_Assignment,
+  target_Comma,
+)
+
+-- what `suffix_placed` of src/expressions.rt proves by
+pub ruleset suffix_placed_rules = (placed_Index, suffix_Call, suffix_Step, suffix_Skipped)

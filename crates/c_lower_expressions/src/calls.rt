@@ -184,7 +184,7 @@ fn is_exit(function: KnownFunction) -> bool
 
 /// A call of what a name stands for.
 #[cycle(expression)]
-#[tactic(auto, using(crate::proofs::CallForms::call_Function, crate::proofs::CallForms::call_Known, crate::proofs::CallForms::call_Object, crate::proofs::CallForms::call_Enumerator, crate::proofs::CallForms::call_None))]
+#[tactic(auto, using(crate::proofs::CallForms::call_of_rules))]
 pub(crate) fn call_of(
     cells: &mut Cells,
     origin: u32,

@@ -76,7 +76,7 @@ pub(crate) fn lowered(
 /// The same of an expression of any form.
 #[inline(never)]
 #[cycle(expression)]
-#[tactic(auto, using(crate::proofs::Variants::of_Name, crate::proofs::Variants::of_Number, crate::proofs::Variants::of_Character, crate::proofs::Variants::of_Bracketed, crate::proofs::Variants::of_PrefixStep, crate::proofs::Variants::of_Unary, crate::proofs::Variants::of_Cast, crate::proofs::Variants::of_Voided, crate::proofs::Variants::of_Untyped, crate::proofs::Variants::of_Chain, crate::proofs::Variants::of_Conditional, crate::proofs::Variants::of_Assignment, crate::proofs::Variants::of_Comma))]
+#[tactic(auto, using(crate::proofs::Variants::form_lowered_rules))]
 fn form_lowered(
     cells: &mut Cells,
     frames: &Frames,
@@ -225,7 +225,7 @@ fn postfix_of(
 
 /// What an expression is as a left side, its index evaluated, and fixed where that is wanted.
 #[cycle(expression)]
-#[tactic(auto, using(crate::proofs::Variants::target_Name, crate::proofs::Variants::target_Number, crate::proofs::Variants::target_Character, crate::proofs::Variants::target_Bracketed, crate::proofs::Variants::target_PrefixStep, crate::proofs::Variants::target_Unary, crate::proofs::Variants::target_Cast, crate::proofs::Variants::target_Chain, crate::proofs::Variants::target_Conditional, crate::proofs::Variants::target_Assignment, crate::proofs::Variants::target_Comma))]
+#[tactic(auto, using(crate::proofs::Variants::placed_rules))]
 fn placed(
     cells: &mut Cells,
     origin: u32,
@@ -296,7 +296,7 @@ fn front_placed(
 
 /// What a suffix makes as a left side, behind what has this name.
 #[cycle(expression)]
-#[tactic(auto, using(crate::proofs::Variants::placed_Index, crate::proofs::Variants::suffix_Call, crate::proofs::Variants::suffix_Step, crate::proofs::Variants::suffix_Skipped))]
+#[tactic(auto, using(crate::proofs::Variants::suffix_placed_rules))]
 fn suffix_placed(
     cells: &mut Cells,
     origin: u32,

@@ -8,7 +8,7 @@ ghost use Rattle.c_lower_expressions.specs.Rows.{suffixed_by};
 use c_types_rules::{Meaning, TypedExpression};
 
 /// What an expression names.
-#[tactic(auto, using(crate::proofs::Variants::names_Name, crate::proofs::Variants::names_Number, crate::proofs::Variants::names_Character, crate::proofs::Variants::names_Bracketed, crate::proofs::Variants::names_PrefixStep, crate::proofs::Variants::names_Unary, crate::proofs::Variants::names_Cast, crate::proofs::Variants::names_Chain, crate::proofs::Variants::names_Conditional, crate::proofs::Variants::names_Assignment, crate::proofs::Variants::names_Comma, crate::proofs::Suffixes::names_base, crate::proofs::Suffixes::names_Postfix))]
+#[tactic(auto, using(crate::proofs::Suffixes::names_of_rules))]
 fn names_of(e: &TypedExpression) -> Option<Meaning>
     ensures { (frames : Frames) → (rows frames e.now).names ≡ result }
 {

@@ -19,7 +19,7 @@ pub fn cell_behind(first: u32, count: u128) -> Result<u32, AllocError>
 }
 
 /// Writes of values to parameters, as far as there are both.
-#[tactic(auto, using(crate::proofs::ParameterWrites::pass_step, crate::proofs::ParameterWrites::pass_none, crate::proofs::ParameterWrites::pass_end, crate::proofs::ParameterWrites::pass_past))]
+#[tactic(auto, using(crate::proofs::ParameterWrites::passed_rules))]
 pub fn passed(
     alloc: Global,
     origin: u32,

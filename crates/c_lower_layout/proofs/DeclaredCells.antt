@@ -125,3 +125,22 @@ cells_Switch value choices other body end place =
     opened (tree.Switch value choices other body end place)
     (TypedStatement-F.Switch value choices other body end place)
     (tree.rolls-Switch value choices other body end place)
+
+-- what `statement_cells` of src/declared.rt proves by
+pub ruleset statement_cells_rules = (
+  cells_Block,
+  cells_Expression,
+  cells_If,
+  cells_While,
+  cells_Do,
+  cells_For,
+  cells_Goto,
+  cells_Break,
+  cells_Continue,
+  cells_Return,
+  cells_Labeled,
+  cells_Switch,
+)
+
+-- what `item_cells` of src/declared.rt proves by
+pub ruleset item_cells_rules = (cells_Declaration, cells_Statement)

@@ -154,3 +154,6 @@ layout_refused globals functions others F begin start frames empty file large =
     too_large globals functions others
     (λ within. large (subst (λ t. AreWithin F functions t) (sym behind)
     (subst (λ G. AreWithin G functions (file_cells globals)) (sym frames) within)))
+
+-- what `layout` of src/placing.rt proves by
+pub ruleset layout_rules = (layout_refused, declared_too_large)

@@ -168,3 +168,6 @@ made_end F all i now trees whole h so =
     ∙ ap (λ (fs : List TypedFunction). trees ++ (rest_of F fs now).made)
     (sym (drop_of_length-le all h))
     ∙ so
+
+-- what `first_cells` of src/placing.rt proves by
+pub ruleset first_cells_rules = (refused_on, found, made_end)

@@ -53,7 +53,7 @@ fn start_cells(start: &TypedForStart) -> Result<u128, AllocError>
 
 /// Those of a statement.
 #[cycle(declaring)]
-#[tactic(auto, using(crate::proofs::DeclaredCells::cells_Block, crate::proofs::DeclaredCells::cells_Expression, crate::proofs::DeclaredCells::cells_If, crate::proofs::DeclaredCells::cells_While, crate::proofs::DeclaredCells::cells_Do, crate::proofs::DeclaredCells::cells_For, crate::proofs::DeclaredCells::cells_Goto, crate::proofs::DeclaredCells::cells_Break, crate::proofs::DeclaredCells::cells_Continue, crate::proofs::DeclaredCells::cells_Return, crate::proofs::DeclaredCells::cells_Labeled, crate::proofs::DeclaredCells::cells_Switch))]
+#[tactic(auto, using(crate::proofs::DeclaredCells::statement_cells_rules))]
 fn statement_cells(s: &TypedStatement) -> Result<u128, AllocError>
     ensures { IfOk result (λ n. n ≡ statement_cells s.now) }
 {
@@ -84,7 +84,7 @@ fn statement_cells(s: &TypedStatement) -> Result<u128, AllocError>
 
 /// Those of an item of a block.
 #[cycle(declaring)]
-#[tactic(auto, using(crate::proofs::DeclaredCells::cells_Declaration, crate::proofs::DeclaredCells::cells_Statement))]
+#[tactic(auto, using(crate::proofs::DeclaredCells::item_cells_rules))]
 fn item_cells(item: &TypedItem) -> Result<u128, AllocError>
     ensures { IfOk result (λ n. n ≡ item_cells item.now) }
 {

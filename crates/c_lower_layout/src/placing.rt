@@ -68,7 +68,7 @@ fn behind_function(
 
 /// The first cells of functions, one behind the other, whose trees are added. None as soon as they
 /// are too large.
-#[tactic(auto, using(crate::proofs::Rests::refused_on, crate::proofs::Rests::found, crate::proofs::Rests::made_end))]
+#[tactic(auto, using(crate::proofs::Rests::first_cells_rules))]
 fn first_cells(
     cells: &mut Cells,
     frames: &Frames,
@@ -170,7 +170,7 @@ fn settled(
 }
 
 /// The layout of a text with these globals and functions.
-#[tactic(auto, using(crate::proofs::LaidOut::layout_refused, crate::proofs::LaidOut::declared_too_large))]
+#[tactic(auto, using(crate::proofs::LaidOut::layout_rules))]
 pub fn layout(
     alloc: Memory,
     globals: &[Global],

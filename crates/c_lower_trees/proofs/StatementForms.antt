@@ -230,3 +230,22 @@ statement_Switch frames result value choices other body end origin taken =
     (opened frames result (tree.Switch value choices other body end origin)
     (TypedStatement-F.Switch value choices other body end origin)
     (tree.rolls-Switch value choices other body end origin))
+
+-- what `statement` of src/statements.rt proves by
+pub ruleset statement_rules = (
+  statement_Block,
+  statement_Expression,
+  statement_If,
+  statement_While,
+  statement_Do,
+  statement_For,
+  statement_Goto,
+  statement_Break,
+  statement_Continue,
+  statement_Return,
+  statement_Labeled,
+  statement_Switch,
+)
+
+-- what `item_trees` of src/statements.rt proves by
+pub ruleset item_trees_rules = (item_Declaration, item_Statement)

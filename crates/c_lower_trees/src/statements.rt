@@ -431,7 +431,7 @@ fn returned(
 
 /// A statement of a function with its result in this place.
 #[cycle(statement)]
-#[tactic(auto, using(crate::proofs::StatementForms::statement_Block, crate::proofs::StatementForms::statement_Expression, crate::proofs::StatementForms::statement_If, crate::proofs::StatementForms::statement_While, crate::proofs::StatementForms::statement_Do, crate::proofs::StatementForms::statement_For, crate::proofs::StatementForms::statement_Goto, crate::proofs::StatementForms::statement_Break, crate::proofs::StatementForms::statement_Continue, crate::proofs::StatementForms::statement_Return, crate::proofs::StatementForms::statement_Labeled, crate::proofs::StatementForms::statement_Switch))]
+#[tactic(auto, using(crate::proofs::StatementForms::statement_rules))]
 fn statement(
     cells: &mut Cells,
     frames: &Frames,
@@ -561,7 +561,7 @@ pub(crate) fn in_order(
 /// An item of a block, behind what is made already. The list comes last: that the calls end is
 /// seen by the item.
 #[cycle(statement)]
-#[tactic(auto, using(crate::proofs::StatementForms::item_Declaration, crate::proofs::StatementForms::item_Statement))]
+#[tactic(auto, using(crate::proofs::StatementForms::item_trees_rules))]
 fn item_trees(
     cells: &mut Cells,
     frames: &Frames,

@@ -1,56 +1,9 @@
 //! What a typedef makes its names stand for: `named_type` of `Parts.antt` of `c_grammar_tree`.
 ghost use Rattle.std.specs.Prelude.{◌≡◌, ◌≤◌, length};
-ghost use Rattle.c_grammar_tree.specs.Parts.{named_by, named_among, is_const_word, have_const};
 ghost use Rattle.c_grammar_tree.specs.Parts.{is_the_word, times, size_of, named_type};
 
-use c_grammar_symbols::{NamedType, Size, SpecifierWord, TypeWord};
-use c_grammar_tree::{Specifier, SpecifierKind};
-
-/// What the word stands for, where it is a typedef name.
-fn named_by(word: Specifier) -> Option<NamedType>
-    ensures { result ≡ named_by word }
-{
-    match word.kind {
-        SpecifierKind::TypedefName(named) => Some(named),
-        SpecifierKind::Storage(_)
-        | SpecifierKind::Other(_)
-        | SpecifierKind::TypeWord(_)
-        | SpecifierKind::Enum => None,
-    }
-}
-
-/// What the first typedef name among these stands for.
-fn named_among(words: &[Specifier]) -> Option<NamedType>
-    ensures { result ≡ named_among words.now }
-{
-    for word in words {
-        if let Some(named) = named_by(*word) {
-            return Some(named);
-        }
-    }
-    None
-}
-
-/// Whether the word makes what is declared const.
-pub fn is_const_word(word: Specifier) -> bool
-    ensures { result ≡ is_const_word word }
-{
-    match word.kind {
-        SpecifierKind::Other(SpecifierWord::Const) => true,
-        SpecifierKind::TypedefName(named) => named.is_const,
-        SpecifierKind::Storage(_)
-        | SpecifierKind::Other(_)
-        | SpecifierKind::TypeWord(_)
-        | SpecifierKind::Enum => false,
-    }
-}
-
-/// Whether one of these does.
-fn have_const(words: &[Specifier]) -> bool
-    ensures { result ≡ have_const words.now }
-{
-    words.iter().any(|word| is_const_word(*word))
-}
+use c_grammar_symbols::{NamedType, Size, TypeWord};
+use c_grammar_tree::{Specifier, SpecifierKind, have_const, named_among};
 
 /// Whether it is this word of a type.
 fn is_the_word(wanted: TypeWord, found: Specifier) -> bool

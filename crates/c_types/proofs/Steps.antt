@@ -47,3 +47,6 @@ pub starts_next : (held : List Start) (text : Text) (x : Item) (xs : List Item)
 starts_next held text x xs before =
     sym (append_assoc held (item_starts text x before) (starts_of text xs
     (item_behind text x before)))
+
+-- what `gather_item` of src/items.rt proves by
+pub ruleset gather_item_rules = (first_append, no_starts, no_calls, no_functions)

@@ -134,7 +134,7 @@ fn gather_parameters(
 }
 
 /// Gathers an item.
-#[tactic(auto, using(c_types_rules::specs::First::first_append, crate::proofs::Steps::no_starts, crate::proofs::Steps::no_calls, crate::proofs::Steps::no_functions))]
+#[tactic(auto, using(crate::proofs::Steps::gather_item_rules))]
 fn gather_item(
     alloc: Global,
     survey: &Survey,

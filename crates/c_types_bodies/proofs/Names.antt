@@ -215,3 +215,15 @@ count_step items i item count one new whole less is one_is new_is so_far =
     ap (λ (xs : List BlockItem). length (flat_map labels_of xs)) (drop_at items i item less is)
     ∙ length-append (labels_of item) rest in
     omega (arith, left, so_far, one_is, new_is)
+
+-- what `push_labels` of src/labels.rt proves by
+pub ruleset push_labels_rules = (none_Expression, none_Goto, none_Break, none_Continue, none_Return)
+
+-- what `count_labels` of src/labels.rt proves by
+pub ruleset count_labels_rules = (
+  zero_Expression,
+  zero_Goto,
+  zero_Break,
+  zero_Continue,
+  zero_Return,
+)

@@ -21,7 +21,7 @@ fn push_unnamed(alloc: Global, labels: &mut Firsts) -> Result<(), AllocError>
 
 /// Adds the names of the labels in a statement, of those without a name empty.
 #[cycle(labels)]
-#[tactic(auto, using(crate::proofs::Names::none_Expression, crate::proofs::Names::none_Goto, crate::proofs::Names::none_Break, crate::proofs::Names::none_Continue, crate::proofs::Names::none_Return))]
+#[tactic(auto, using(crate::proofs::Names::push_labels_rules))]
 fn push_labels(alloc: Global, labels: &mut Firsts, statement: &Statement) -> Result<(), AllocError>
     ensures { OnOk result (labels.new
         ≡ labels.old ++ map name_bytes (labels_in statement.now)) }
@@ -132,7 +132,7 @@ fn count_more(statement: &Statement) -> Result<u32, AllocError>
 
 /// How many labels there are in a statement.
 #[cycle(counting)]
-#[tactic(auto, using(crate::proofs::Names::zero_Expression, crate::proofs::Names::zero_Goto, crate::proofs::Names::zero_Break, crate::proofs::Names::zero_Continue, crate::proofs::Names::zero_Return))]
+#[tactic(auto, using(crate::proofs::Names::count_labels_rules))]
 pub(crate) fn count_labels(statement: &Statement) -> Result<u32, AllocError>
     ensures { IfOk result (λ n. n ≡ length (labels_in statement.now)) }
 {

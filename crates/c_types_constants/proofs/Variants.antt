@@ -182,3 +182,22 @@ impure_Skipped kind place =
     opened_suffix (behind.Skipped kind place)
     (TypedSuffix-F.Skipped kind place)
     (behind.rolls-Skipped kind place)
+
+-- what `is_impure_suffix` of src/evaluate.rt proves by
+pub ruleset is_impure_suffix_rules = (impure_Index, impure_Call, impure_Step, impure_Skipped)
+
+-- what `constant` of src/evaluate.rt proves by
+pub ruleset constant_rules = (
+  constant_Name,
+  constant_Number,
+  constant_Character,
+  constant_Bracketed,
+  constant_Postfix,
+  constant_PrefixStep,
+  constant_Unary,
+  constant_Cast,
+  constant_Chain,
+  constant_Conditional,
+  constant_Assignment,
+  constant_Comma,
+)

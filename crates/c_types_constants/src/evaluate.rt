@@ -209,7 +209,7 @@ fn has_impure(suffixes: &[TypedSuffix]) -> bool
 
 /// Whether a suffix makes its expression no constant.
 #[cycle(constant)]
-#[tactic(auto, using(crate::proofs::Variants::impure_Index, crate::proofs::Variants::impure_Call, crate::proofs::Variants::impure_Step, crate::proofs::Variants::impure_Skipped))]
+#[tactic(auto, using(crate::proofs::Variants::is_impure_suffix_rules))]
 fn is_impure_suffix(suffix: &TypedSuffix) -> bool
     ensures { result ≡ suffix_impure suffix.now }
 {
@@ -249,7 +249,7 @@ fn comma(items: &[TypedExpression], kind: Option<Kind>) -> Constant
 
 /// A typed expression as a constant.
 #[cycle(constant)]
-#[tactic(auto, using(crate::proofs::Variants::constant_Name, crate::proofs::Variants::constant_Number, crate::proofs::Variants::constant_Character, crate::proofs::Variants::constant_Bracketed, crate::proofs::Variants::constant_Postfix, crate::proofs::Variants::constant_PrefixStep, crate::proofs::Variants::constant_Unary, crate::proofs::Variants::constant_Cast, crate::proofs::Variants::constant_Chain, crate::proofs::Variants::constant_Conditional, crate::proofs::Variants::constant_Assignment, crate::proofs::Variants::constant_Comma))]
+#[tactic(auto, using(crate::proofs::Variants::constant_rules))]
 pub fn constant(e: &TypedExpression) -> Constant
     ensures { result ≡ constant e.now }
 {

@@ -213,3 +213,15 @@ module _ (text : Text) (names : List Entry) where
       (open_Skipped place)
       ∙ ap (λ (cs : List Call). held ++ cs)
       (append-nil (use_calls caller (given base.form 0)) ∙ given_calls caller base.form 0)
+
+-- what `read_index` of src/postfix.rt proves by
+pub ruleset read_index_rules = (part_Index, typed_Index, first_Index, calls_Index)
+
+-- what `read_call` of src/postfix.rt proves by
+pub ruleset read_call_rules = (part_Call, typed_Call, first_Call, calls_Call)
+
+-- what `read_step` of src/postfix.rt proves by
+pub ruleset read_step_rules = (part_Step, typed_Step, first_Step)
+
+-- what `read_skipped` of src/postfix.rt proves by
+pub ruleset read_skipped_rules = (part_Skipped, typed_Skipped, first_Skipped, calls_Skipped)

@@ -591,3 +591,62 @@ module _ (text : Text) (names : List Entry) where
   calls_Comma held caller items place =
       ap (λ (r : Reading). held ++ uses_calls caller r.uses) (open_Comma items place)
       ∙ ap (λ (cs : List Call). held ++ cs) (list_calls text names caller Evaluated items)
+
+-- what `read_name` of src/atoms.rt proves by
+pub ruleset read_name_rules = (part_Name, typed_Name, first_Name)
+
+-- what `read_character` of src/atoms.rt proves by
+pub ruleset read_character_rules = (part_Character, typed_Character)
+
+-- what `read_comma` of src/chains.rt proves by
+pub ruleset read_comma_rules = (part_Comma, typed_Comma, first_Comma, calls_Comma)
+
+-- what `read_bracketed` of src/operators.rt proves by
+pub ruleset read_bracketed_rules = (
+  part_Bracketed,
+  typed_Bracketed,
+  first_Bracketed,
+  calls_Bracketed,
+)
+
+-- what `read_prefix_step` of src/operators.rt proves by
+pub ruleset read_prefix_step_rules = (
+  part_PrefixStep,
+  typed_PrefixStep,
+  first_PrefixStep,
+  calls_PrefixStep,
+)
+
+-- what `read_unary` of src/operators.rt proves by
+pub ruleset read_unary_rules = (part_Unary, typed_Unary, first_Unary, calls_Unary)
+
+-- what `read_cast` of src/operators.rt proves by
+pub ruleset read_cast_rules = (part_Cast, typed_Cast, first_Cast, calls_Cast)
+
+-- what `read_expression` of src/read.rt proves by
+pub ruleset read_expression_rules = (first_Number, calls_Name, calls_Number)
+
+-- what `read_form` of src/read.rt proves by
+pub ruleset read_form_rules = (
+  first_Number,
+  first_Character,
+  calls_Name,
+  calls_Number,
+  calls_Character,
+  part_Postfix,
+  typed_Postfix,
+  first_Postfix,
+  calls_Postfix,
+  part_Chain,
+  typed_Chain,
+  first_Chain,
+  calls_Chain,
+  part_Conditional,
+  typed_Conditional,
+  first_Conditional,
+  calls_Conditional,
+  part_Assignment,
+  typed_Assignment,
+  first_Assignment,
+  calls_Assignment,
+)

@@ -16,7 +16,7 @@ use std::alloc::AllocError;
 
 impl Reader<'_> {
     /// Reads a name.
-    #[tactic(auto, using(crate::proofs::Variants::part_Name, crate::proofs::Variants::typed_Name, crate::proofs::Variants::first_Name))]
+    #[tactic(auto, using(crate::proofs::Variants::read_name_rules))]
     pub(crate) fn read_name(
         &self,
         name: &Name,
@@ -68,7 +68,7 @@ pub(crate) fn read_number(ty: IntType, value: i128, place: u32) -> Read
 }
 
 /// Reads a character constant.
-#[tactic(auto, using(crate::proofs::Variants::part_Character, crate::proofs::Variants::typed_Character))]
+#[tactic(auto, using(crate::proofs::Variants::read_character_rules))]
 pub(crate) fn read_character(value: i128, place: u32) -> Read
     ensures part { (text : Text) (names : List Entry)
         → result.part ≡ part_of text names (Expression.Character value place) }

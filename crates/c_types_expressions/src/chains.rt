@@ -118,7 +118,7 @@ impl Reader<'_> {
 
     /// Reads expressions with commas between them.
     #[cycle(read)]
-    #[tactic(auto, using(crate::proofs::Variants::part_Comma, crate::proofs::Variants::typed_Comma, crate::proofs::Variants::first_Comma, crate::proofs::Variants::calls_Comma))]
+    #[tactic(auto, using(crate::proofs::Variants::read_comma_rules))]
     pub(crate) fn read_comma(
         &self,
         items: &[Expression],

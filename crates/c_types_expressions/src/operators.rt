@@ -25,7 +25,7 @@ use std::alloc::AllocError;
 impl Reader<'_> {
     /// Reads `(inner)`.
     #[cycle(read)]
-    #[tactic(auto, using(crate::proofs::Variants::part_Bracketed, crate::proofs::Variants::typed_Bracketed, crate::proofs::Variants::first_Bracketed, crate::proofs::Variants::calls_Bracketed))]
+    #[tactic(auto, using(crate::proofs::Variants::read_bracketed_rules))]
     pub(crate) fn read_bracketed(
         &self,
         inner: &Expression,
@@ -61,7 +61,7 @@ impl Reader<'_> {
 
     /// Reads `++operand` or `--operand`.
     #[cycle(read)]
-    #[tactic(auto, using(crate::proofs::Variants::part_PrefixStep, crate::proofs::Variants::typed_PrefixStep, crate::proofs::Variants::first_PrefixStep, crate::proofs::Variants::calls_PrefixStep))]
+    #[tactic(auto, using(crate::proofs::Variants::read_prefix_step_rules))]
     pub(crate) fn read_prefix_step(
         &self,
         operator: StepOperator,
@@ -97,7 +97,7 @@ impl Reader<'_> {
 
     /// Reads an operator before an operand.
     #[cycle(read)]
-    #[tactic(auto, using(crate::proofs::Variants::part_Unary, crate::proofs::Variants::typed_Unary, crate::proofs::Variants::first_Unary, crate::proofs::Variants::calls_Unary))]
+    #[tactic(auto, using(crate::proofs::Variants::read_unary_rules))]
     pub(crate) fn read_unary(
         &self,
         operator: UnaryOperator,
@@ -146,7 +146,7 @@ impl Reader<'_> {
 
     /// Reads `(to) operand`.
     #[cycle(read)]
-    #[tactic(auto, using(crate::proofs::Variants::part_Cast, crate::proofs::Variants::typed_Cast, crate::proofs::Variants::first_Cast, crate::proofs::Variants::calls_Cast))]
+    #[tactic(auto, using(crate::proofs::Variants::read_cast_rules))]
     pub(crate) fn read_cast(
         &self,
         to: &TypeName,

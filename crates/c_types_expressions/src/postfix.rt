@@ -82,7 +82,7 @@ impl Reader<'_> {
 
     /// Reads `[index]` behind an expression.
     #[cycle(read)]
-    #[tactic(auto, using(crate::proofs::Suffixes::part_Index, crate::proofs::Suffixes::typed_Index, crate::proofs::Suffixes::first_Index, crate::proofs::Suffixes::calls_Index))]
+    #[tactic(auto, using(crate::proofs::Suffixes::read_index_rules))]
     fn read_index(
         &self,
         base: Part,
@@ -122,7 +122,7 @@ impl Reader<'_> {
 
     /// Reads `(arguments)` behind an expression.
     #[cycle(read)]
-    #[tactic(auto, using(crate::proofs::Suffixes::part_Call, crate::proofs::Suffixes::typed_Call, crate::proofs::Suffixes::first_Call, crate::proofs::Suffixes::calls_Call))]
+    #[tactic(auto, using(crate::proofs::Suffixes::read_call_rules))]
     fn read_call(
         &self,
         base: Part,
@@ -160,7 +160,7 @@ impl Reader<'_> {
 }
 
 /// Reads `++` or `--` behind an expression.
-#[tactic(auto, using(crate::proofs::Suffixes::part_Step, crate::proofs::Suffixes::typed_Step, crate::proofs::Suffixes::first_Step))]
+#[tactic(auto, using(crate::proofs::Suffixes::read_step_rules))]
 fn read_step(
     base: Part,
     operator: StepOperator,
@@ -188,7 +188,7 @@ fn read_step(
 
 impl Reader<'_> {
     /// Reads brackets whose tokens do not matter, behind an expression.
-    #[tactic(auto, using(crate::proofs::Suffixes::part_Skipped, crate::proofs::Suffixes::typed_Skipped, crate::proofs::Suffixes::first_Skipped, crate::proofs::Suffixes::calls_Skipped))]
+    #[tactic(auto, using(crate::proofs::Suffixes::read_skipped_rules))]
     fn read_skipped(&self, base: Part, place: u32, notes: &mut Notes) -> Result<Behind, AllocError>
         ensures part { (text : Text) (names : List Entry) → IfOk result (λ r. r.part
             ≡ part_behind text names base (Suffix.Skipped place)) }

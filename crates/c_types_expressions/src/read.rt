@@ -94,7 +94,7 @@ impl Reader<'_> {
     /// read here, since a function takes the time at its start that the room for its other forms
     /// asks for.
     #[cycle(read)]
-    #[tactic(auto, using(crate::proofs::Variants::first_Number, crate::proofs::Variants::calls_Name, crate::proofs::Variants::calls_Number))]
+    #[tactic(auto, using(crate::proofs::Variants::read_expression_rules))]
     pub fn read_expression(&self, e: &Expression, notes: &mut Notes) -> Result<Read, AllocError>
         ensures part { IfOk result (λ r. r.part
             ≡ part_of self.now.survey.now self.now.names.now e.now) }
@@ -116,7 +116,7 @@ impl Reader<'_> {
     /// Reads an expression of any form.
     #[inline(never)]
     #[cycle(read)]
-    #[tactic(auto, using(crate::proofs::Variants::first_Number, crate::proofs::Variants::first_Character, crate::proofs::Variants::calls_Name, crate::proofs::Variants::calls_Number, crate::proofs::Variants::calls_Character, crate::proofs::Variants::part_Postfix, crate::proofs::Variants::typed_Postfix, crate::proofs::Variants::first_Postfix, crate::proofs::Variants::calls_Postfix, crate::proofs::Variants::part_Chain, crate::proofs::Variants::typed_Chain, crate::proofs::Variants::first_Chain, crate::proofs::Variants::calls_Chain, crate::proofs::Variants::part_Conditional, crate::proofs::Variants::typed_Conditional, crate::proofs::Variants::first_Conditional, crate::proofs::Variants::calls_Conditional, crate::proofs::Variants::part_Assignment, crate::proofs::Variants::typed_Assignment, crate::proofs::Variants::first_Assignment, crate::proofs::Variants::calls_Assignment))]
+    #[tactic(auto, using(crate::proofs::Variants::read_form_rules))]
     fn read_form(&self, e: &Expression, notes: &mut Notes) -> Result<Read, AllocError>
         ensures part { IfOk result (λ r. r.part
             ≡ part_of self.now.survey.now self.now.names.now e.now) }

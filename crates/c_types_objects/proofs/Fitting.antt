@@ -42,3 +42,6 @@ given_noted held inconstant_at number place text names declarator given at_i at_
 
 pub no_calls : (held : List Call) (caller : ℕ) → held ++ uses_calls caller [] ≡ held
 no_calls held caller = ap (λ (cs : List Call). held ++ cs) (calls_are caller []) ∙ append-nil held
+
+-- what `read_given` of src/lengths.rt proves by
+pub ruleset read_given_rules = (broken_append, first_append)

@@ -66,7 +66,7 @@ fn note_misfit(
 }
 
 /// Reads a length that is there; it counts as 0 where it has no value.
-#[tactic(auto, using(crate::proofs::Fitting::broken_append, c_types_rules::specs::First::first_append))]
+#[tactic(auto, using(crate::proofs::Fitting::read_given_rules))]
 fn read_given(
     alloc: Global,
     survey: &Survey,

@@ -1,12 +1,12 @@
 //! What specifiers say of an object or a function (`kind_of` and `has_const` of `c_types_rules`,
 //! `specs/Declarations.antt`). Proved with `proofs/Words.antt`.
 ghost use Rattle.std.specs.Prelude.{◌≡◌, ◌++◌, ◌∷◌, [], IfOk, OnOk};
-ghost use Rattle.c_grammar_tree.specs.Parts.{type_words, named_by, named_among, is_const_word};
+ghost use Rattle.c_grammar_tree.specs.Parts.{type_words};
 ghost use Rattle.c_types_rules.specs.Declarations.{is_void_word, kind_by, kind_of, has_const};
 ghost use Rattle.c_types_rules.specs.Types.{kind_of_words};
 
-use c_grammar_symbols::{NamedType, SpecifierWord, TypeWord};
-use c_grammar_tree::{Specifier, SpecifierKind, Specifiers};
+use c_grammar_symbols::TypeWord;
+use c_grammar_tree::{Specifier, SpecifierKind, Specifiers, have_const, named_among};
 use c_types_names::Survey;
 use c_types_rules::{Kind, kind_of_words, type_of_named};
 use cpa_ints::{DataModel, IntType};
@@ -85,50 +85,11 @@ fn kind_of_one(model: DataModel, word: Specifier) -> Kind
     }
 }
 
-/// What the word stands for, where it is a typedef name.
-fn named_by(word: Specifier) -> Option<NamedType>
-    ensures { result ≡ named_by word }
-{
-    match word.kind {
-        SpecifierKind::TypedefName(named) => Some(named),
-        SpecifierKind::Storage(_)
-        | SpecifierKind::Other(_)
-        | SpecifierKind::TypeWord(_)
-        | SpecifierKind::Enum => None,
-    }
-}
-
-/// What the first typedef name among these stands for.
-fn named_among(words: &[Specifier]) -> Option<NamedType>
-    ensures { result ≡ named_among words.now }
-{
-    for word in words {
-        if let Some(named) = named_by(*word) {
-            return Some(named);
-        }
-    }
-    None
-}
-
 /// Whether specifiers have `const` among them.
 pub(crate) fn has_const(specifiers: &Specifiers) -> bool
     ensures { result ≡ has_const specifiers.now }
 {
-    specifiers.words.iter().any(|word| is_const_word(*word))
-}
-
-/// Whether the word makes what is declared const.
-fn is_const_word(word: Specifier) -> bool
-    ensures { result ≡ is_const_word word }
-{
-    match word.kind {
-        SpecifierKind::Other(SpecifierWord::Const) => true,
-        SpecifierKind::TypedefName(named) => named.is_const,
-        SpecifierKind::Storage(_)
-        | SpecifierKind::Other(_)
-        | SpecifierKind::TypeWord(_)
-        | SpecifierKind::Enum => false,
-    }
+    have_const(specifiers.words.as_slice())
 }
 
 /// Whether the word is `void`.
