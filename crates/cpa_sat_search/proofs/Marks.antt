@@ -15,7 +15,7 @@ use Rattle.cpa_cnf.specs.Literals.{opposite, literal_number}
 use Rattle.cpa_cnf.specs.Resolution.{clash_on, in_union_without, IsResolvent}
 use Rattle.cpa_cnf.specs.Lines.{AreBelow, Gives, IsGoodLine}
 use Rattle.cpa_cnf.specs.lemmas.Chains.{member_below}
-use Rattle.cpa_sat_trail.specs.declared.trail.TheConstants.{NONE}
+use Rattle.cpa_sat_arena.specs.declared.literal.TheConstants.{NO_LITERAL}
 use Rattle.cpa_sat_search.specs.declared.analysis.Analysis.{Analysis}
 use Rattle.cpa_sat_search.specs.Analyses.{AreNoted, HasMarksOf, HasUnion, IsDerived}
 use Rattle.cpa_cnf.specs.Marking.{marked, IsMarkedAs}
@@ -216,14 +216,14 @@ marked_inside marks l h = go (cases_lt l (length marks))
 -- what the first loop marks are the literals of the clause
 pub begun_marks : (vars : ℕ) (old new : List Bool) (clause : List ℕ) → vars < 2 ^ 31
     → AreBelow vars clause → ((l : ℕ) → marked old l ≡ false)
-    → ((l : ℕ) → marked new l ≡ (marked old l || (has clause l && not (l == NONE)))) → (l : ℕ)
+    → ((l : ℕ) → marked new l ≡ (marked old l || (has clause l && not (l == NO_LITERAL)))) → (l : ℕ)
     → marked new l ≡ has clause l
 begun_marks vars old new clause small below blank marks l =
-    marks l ∙ ap (λ b. b || (has clause l && not (l == NONE))) (blank l)
-    ∙ and_true_right (has clause l) (not (l == NONE))
-    (λ h. not_eq l NONE (λ e. in_range (member_below vars clause l below h) e))
+    marks l ∙ ap (λ b. b || (has clause l && not (l == NO_LITERAL))) (blank l)
+    ∙ and_true_right (has clause l) (not (l == NO_LITERAL))
+    (λ h. not_eq l NO_LITERAL (λ e. in_range (member_below vars clause l below h) e))
   where
-    in_range : l < 2 * vars → l ≡ NONE → ⊥
+    in_range : l < 2 * vars → l ≡ NO_LITERAL → ⊥
     in_range h e = absurd (omega arith)
 
 pub begun : (cs : List (List ℕ)) (number : ℕ) (a : Analysis) → length a.marks.items ≡ 2 * a.vars

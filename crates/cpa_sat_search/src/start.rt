@@ -6,7 +6,7 @@ ghost use Rattle.std.specs.List.{AllByRecursion};
 ghost use Rattle.cpa_cnf.specs.Clauses.{IsClause};
 ghost use Rattle.cpa_cnf.specs.Lines.{AreBelow};
 ghost use Rattle.cpa_cnf.specs.Models.{IsModel};
-ghost use Rattle.cpa_sat_trail.specs.declared.trail.TheConstants.{NONE};
+ghost use Rattle.cpa_sat_arena.specs.declared.literal.TheConstants.{NO_CLAUSE};
 ghost use Rattle.cpa_sat_trail.specs.Findings.{AreSatisfied};
 ghost use Rattle.cpa_sat_search.specs.Endings.{IsEnding};
 ghost use Rattle.cpa_sat_search.specs.States.{AreLoaded, IsState};
@@ -17,8 +17,8 @@ use crate::found::Found;
 use crate::quality::Quality;
 use crate::redundancy::Redundancy;
 use cpa_cnf::{Clause, Cnf, Line};
-use cpa_sat_arena::Arena;
-use cpa_sat_trail::{NONE, Order, Restarts, Trail, VARS_LIMIT, values, watch_all};
+use cpa_sat_arena::{Arena, NO_CLAUSE};
+use cpa_sat_trail::{Order, Restarts, Trail, VARS_LIMIT, values, watch_all};
 use std::alloc::{AllocError, Global};
 use std::mem;
 
@@ -27,9 +27,9 @@ fn load_clause(arena: &mut Arena, clause: &Clause) -> Result<(), AllocError>
     requires { AllByRecursion (λ l. l < 2 ^ 32) clause.now }
     ensures loaded { OnOk result (arena.new ≡ arena.old ++ clause.now ∷ []) }
     ensures sorted { OnOk result (IsClause clause.now) }
-    ensures few { OnOk result (length arena.new < NONE) }
+    ensures few { OnOk result (length arena.new < NO_CLAUSE) }
 {
-    if arena.len() >= NONE as usize - 1 {
+    if arena.len() >= NO_CLAUSE as usize - 1 {
         return Err(AllocError);
     }
     let _sorted = clause.literals();

@@ -1,6 +1,5 @@
 use Rattle.std.proofs.Common.{◌≡◌, ℕ, not, ◌&&◌, ◌||◌, ◌+◌, take, get_or, sym, ◌∙◌, subst}
 use Rattle.std.specs.Prelude.{◌==◌}
-use Rattle.std.proofs.lemmas.List.{get_or_default}
 use Rattle.cpa_cnf.specs.Clauses.{has}
 use Rattle.cpa_cnf.specs.Marking.{marked}
 use Rattle.cpa_sat_search.specs.declared.analysis.Analysis.{Analysis}
@@ -25,8 +24,8 @@ loop-literal-preserved c =
     let now = c.loop-literal.self in
     let xs = c.args.clause.now in
     let k = c.loop-literal.literal-index in
-    let x : ℕ = get_or xs k 0 in
-    let is : x ≡ get_or xs k x = get_or_default xs k 0 x c.loop-literal-test.true in
+    let x : ℕ = c.literal-item.result in
+    let is : x ≡ get_or xs k x = c.literal-item.is in
     let Q : Analysis → Type 0 = λ a.
     ((l : ℕ) → marked a.marks.items l
     ≡ (marked old.marks.items l || (has (take (k + 1) xs) l && not (l == c.args.except))))
