@@ -4,6 +4,7 @@
 ghost use Rattle.std.specs.Prelude.{◌≡◌, ◌≢◌, ◌<◌, ◌^◌, ℕ, [], ◌∷◌, ◌++◌, length, slice_index_or};
 ghost use Rattle.std.specs.Prelude.{IfSome, IfNone, OnOk, OnErr};
 ghost use Rattle.std.specs.List.{AllByRecursion};
+ghost use Rattle.cpa_sat_arena.specs.declared.literal.TheConstants.{NO_CLAUSE};
 
 use crate::literal::{ClauseRef, PackedLit};
 use crate::store::Store;
@@ -62,6 +63,7 @@ impl Arena {
     pub fn push(&mut self, clause: &Clause) -> Result<(), AllocError>
         requires { AllByRecursion (λ l. l < 2 ^ 32) clause.now }
         ensures pushed { OnOk result (self.new ≡ self.old ++ clause.now ∷ []) }
+        ensures few { OnOk result (length self.new < NO_CLAUSE) }
         ensures kept { OnErr result (self.new ≡ self.old) }
     {
         self.store.push(clause)

@@ -7,6 +7,7 @@ ghost use borrow.Author.Rules.{rules};
 ghost use Rattle.cpa_cnf.specs.Literals.{opposite};
 ghost use Rattle.cpa_sat_arena.specs.declared.literal.TheConstants.{NO_CLAUSE, NO_LITERAL};
 
+use cpa_cnf::Lit;
 use std::marker::Model;
 
 /// The number that stands for no clause.
@@ -14,6 +15,9 @@ pub const NO_CLAUSE: u32 = u32::MAX;
 
 /// The number that stands for no literal.
 pub const NO_LITERAL: u32 = u32::MAX;
+
+/// The number that stands for no variable.
+const NO_VARIABLE: u32 = u32::MAX;
 
 /// A variable.
 #[derive(Clone, Copy)]
@@ -44,7 +48,9 @@ impl Var {
 
     /// What stands for no variable.
     pub fn none() -> Var {
-        Var { number: u32::MAX }
+        Var {
+            number: NO_VARIABLE,
+        }
     }
 
     /// Its number.
@@ -93,11 +99,21 @@ impl Model for PackedLit {
 }
 
 impl PackedLit {
-    /// The literal of a code.
-    pub(crate) fn from_code(code: u32) -> PackedLit
-        ensures { result ≡ code }
+    /// The literal, in four bytes.
+    pub(crate) fn pack(literal: Lit) -> PackedLit
+        requires { literal < 2 ^ 32 }
+        ensures { result ≡ literal }
     {
-        PackedLit { code }
+        PackedLit {
+            code: literal.number() as u32,
+        }
+    }
+
+    /// The literal, as clauses outside a search have it.
+    pub fn unpack(self) -> Lit
+        ensures { result ≡ self }
+    {
+        Lit::new(self.var().number(), self.is_negative())
     }
 
     /// What stands for no literal.

@@ -4,6 +4,7 @@
 ghost use Rattle.std.specs.Prelude.{◌≡◌, ◌+◌, ◌≢◌, ◌↔◌, ◌<◌, ◌*◌, ◌^◌, ◌++◌, ◌∷◌, ℕ, [], length};
 ghost use Rattle.std.specs.Prelude.{slice_index_or, IsTrue, IfSome, IfNone, IfOk, OnOk, OnErr};
 ghost use Rattle.std.specs.List.{AllByRecursion};
+ghost use Rattle.cpa_sat_arena.specs.declared.literal.TheConstants.{NO_CLAUSE};
 ghost use Rattle.cpa_sat_arena.specs.Extents.{hash_at, IsFiled, IsKept, IsRoomy, IsStored};
 ghost use Rattle.cpa_sat_arena.specs.Extents.{clauses_of, hashes_of};
 ghost use Rattle.cpa_sat_arena.specs.Hashes.{clause_hash, IsIndexed};
@@ -16,7 +17,10 @@ use std::alloc::{AllocError, Global};
 /// The most clauses of an arena: `NO_CLAUSE` is the number of none of them.
 const MOST_CLAUSES: usize = NO_CLAUSE as usize - 1;
 
-/// The places that an index has beside two for each clause.
+/// The places that an index has for each clause.
+const PLACES_EACH: usize = 2;
+
+/// The places that it has besides.
 const SPARE_PLACES: usize = 64;
 
 /// Where the literals of a clause stand, and its hash.
@@ -43,7 +47,7 @@ fn push_literals(literals: &mut Vec<PackedLit>, clause: &Clause) -> Result<(), A
     ensures err { OnErr result (IsKept literals.old.items literals.new.items) }
 {
     for literal in clause.literals() {
-        literals.push(PackedLit::from_code(literal.number() as u32))?;
+        literals.push(PackedLit::pack(*literal))?;
     }
     Ok(())
 }
@@ -86,7 +90,7 @@ fn indexed(alloc: Global, extents: &[Extent]) -> Result<Index, AllocError>
     requires { length extents.now + 1 < 2 ^ 32 }
     ensures { IfOk result (IsRoomy extents.now) }
 {
-    let mut index = Index::new(alloc, extents.len() * 2 + SPARE_PLACES)?;
+    let mut index = Index::new(alloc, extents.len() * PLACES_EACH + SPARE_PLACES)?;
     for number in 0..extents.len() {
         index.link(number as u32, extents[number].hash);
     }
@@ -176,6 +180,7 @@ impl Store {
         ensures pushed { OnOk result
             (clauses_of self.new.literals.items self.new.extents.items
             ≡ clauses_of self.old.literals.items self.old.extents.items ++ clause.now ∷ []) }
+        ensures few { OnOk result (length self.new.extents.items < NO_CLAUSE) }
         ensures kept { OnErr result (clauses_of self.new.literals.items self.new.extents.items
             ≡ clauses_of self.old.literals.items self.old.extents.items) }
     {

@@ -151,7 +151,7 @@ pub state_more : (cnf : Cnf) (s t : Search) (line : Line) → IsState cnf s
     → IsGoodLine cnf.vars s.arena line → IsClause line.clause → line.clause ≢ []
     → IsFresh s.arena line.clause → t.arena ≡ s.arena ++ line.clause ∷ [] → t.trail ≡ s.trail
     → t.analysis ≡ s.analysis
-    → t.lines.items ≡ s.lines.items ++ line ∷ [] → length s.arena + 1 < NO_CLAUSE → IsState cnf t
+    → t.lines.items ≡ s.lines.items ++ line ∷ [] → length t.arena < NO_CLAUSE → IsState cnf t
 state_more cnf s t line st good sorted filled fresh arena trail analysis lines room = record {
   sound = subst (λ (cs : List (List ℕ)). IsSound cs t.trail) (sym arena)
       (subst (λ (u : Trail). IsSound (s.arena ++ line.clause ∷ []) u) (sym trail)
@@ -162,8 +162,7 @@ state_more cnf s t line st good sorted filled fresh arena trail analysis lines r
   idle = subst (λ (a : Analysis). IsIdle a) (sym analysis) st.idle;
   clauses = arena ∙ ap (λ (cs : List (List ℕ)). cs ++ line.clause ∷ []) st.clauses
       ∙ sym (known_more cnf s.lines.items line) ∙ ap (λ (ls : List Line). known cnf ls) (sym lines);
-  few = subst (λ n. n < NO_CLAUSE) (sym (ap (λ (cs : List (List ℕ)). length cs) arena
-      ∙ length_push s.arena line.clause)) room;
+  few = room;
   good = subst (λ (ls : List Line). AreGood cnf ls) (sym lines)
       (good_more cnf s.lines.items line st.good
       (subst (λ (cs : List (List ℕ)). IsGoodLine cnf.vars cs line) st.clauses good));

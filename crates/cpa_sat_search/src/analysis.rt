@@ -188,7 +188,7 @@ impl Analysis {
         ensures touched { OnOk result (self.new.touched.items ≡ self.old.touched.items) }
     {
         if self.is_marked(literal) {
-            literals.push(Lit::new(literal.var().number(), literal.is_negative()))?;
+            literals.push(literal.unpack())?;
             self.marks[literal.index()] = false;
         }
         Ok(())

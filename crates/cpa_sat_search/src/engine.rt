@@ -18,7 +18,7 @@ use crate::conflict::analyse;
 use crate::quality::Quality;
 use crate::redundancy::Redundancy;
 use cpa_cnf::{Cnf, Line};
-use cpa_sat_arena::{Arena, ClauseRef, NO_CLAUSE, PackedLit};
+use cpa_sat_arena::{Arena, ClauseRef, PackedLit};
 use cpa_sat_trail::{
     Jump, NO_PLACE, Order, Restarts, Trail, Watches, decide, force_units, is_open, jump_back,
     open_literal, propagate, unsatisfied, watch_clause,
@@ -117,9 +117,6 @@ impl Search {
         ensures lines { OnOk result (self.new.lines.items ≡ self.old.lines.items ++ line ∷ []) }
     {
         let _vars = cnf.vars;
-        if self.arena.len() >= NO_CLAUSE as usize - 1 {
-            return Err(AllocError);
-        }
         self.watches.add()?;
         self.quality.add(self.redundancy.distance)?;
         self.arena.push(&line.clause)?;

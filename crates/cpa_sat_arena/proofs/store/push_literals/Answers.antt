@@ -1,10 +1,6 @@
-use Rattle.std.proofs.Common.{◌∙◌, Result, Ok, Err, take}
-use Rattle.std.specs.Prelude.{OnErr}
+use Rattle.std.proofs.Common.{◌∙◌, take}
+use Rattle.cpa_sat_arena.proofs.Stores.{on_err}
 use Rattle.cpa_sat_arena.proofs.store.push_literals.Goals as goal
-
-on_err : {X E : Type 0} (r : Result X E) (P : Type 0) → P → OnErr r P
-on_err (Ok x) P p = tt
-on_err (Err e) P p = p
 
 pub returns-in_err-push-clause-err : goal.returns-in_err-push-clause-err
 returns-in_err-push-clause-err c =

@@ -8,7 +8,12 @@ returns-clause-sound c =
     let e = c.in_ok-push.ensures in
     let t = c.args.trail.now in
     let p : IsPushed t c.push.new.self c.args.literal NO_CLAUSE =
-    record { vars = e.vars; lits = e.lits; reasons = e.reasons ∙ ap (λ r. t.reasons.items ++ r ∷ []) c.none.ensures; places = e.places } in
+    record {
+      vars = e.vars;
+      lits = e.lits;
+      reasons = e.reasons ∙ ap (λ r. t.reasons.items ++ r ∷ []) c.none.ensures;
+      places = e.places;
+    } in
     sound_push c.args.arena.now t c.push.new.self c.args.literal NO_CLAUSE c.requires.sound e.trail
     p c.requires.not_true (λ ne. absurd (ne refl))
 
@@ -17,5 +22,10 @@ returns-clause-rises c =
     let e = c.in_ok-push.ensures in
     let t = c.args.trail.now in
     let p : IsPushed t c.push.new.self c.args.literal NO_CLAUSE =
-    record { vars = e.vars; lits = e.lits; reasons = e.reasons ∙ ap (λ r. t.reasons.items ++ r ∷ []) c.none.ensures; places = e.places } in
+    record {
+      vars = e.vars;
+      lits = e.lits;
+      reasons = e.reasons ∙ ap (λ r. t.reasons.items ++ r ∷ []) c.none.ensures;
+      places = e.places;
+    } in
     rises_push t c.push.new.self c.args.literal NO_CLAUSE c.requires.sound.trail e.trail p
