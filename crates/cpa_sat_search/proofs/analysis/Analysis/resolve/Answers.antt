@@ -9,7 +9,7 @@ use Rattle.cpa_cnf.specs.lemmas.Chains.{listed_marks}
 use Rattle.cpa_sat_search.proofs.Marks.{derived_more, union_of}
 use Rattle.cpa_sat_search.proofs.analysis.Analysis.resolve.Goals as goal
 
-step_of : ℕ → ℕ → Step
+abbrev step_of : ℕ → ℕ → Step
 step_of pivot clause = record { pivot = pivot; clause = clause }
 
 pub returns-clause-derived : goal.returns-clause-derived
