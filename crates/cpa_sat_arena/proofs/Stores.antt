@@ -1,8 +1,8 @@
 -- More literals leave the clauses that stand as they are, and the next clause is the last piece.
 use Rattle.std.proofs.Common.{◌≡◌, ◌≢◌, ℕ, zero, suc, ◌+◌, ◌-◌, ◌%◌, ◌<◌, ◌≤◌, List, [], ◌∷◌}
 use Rattle.std.proofs.Common.{◌++◌, take, drop, set, length, get_or, refl, sym, ap, ◌∙◌, subst}
-use Rattle.std.proofs.Common.{arith}
-use Rattle.std.specs.Prelude.{slice_index_or}
+use Rattle.std.proofs.Common.{Result, Ok, Err, arith}
+use Rattle.std.specs.Prelude.{OnErr, slice_index_or}
 use Rattle.std.specs.List.{AllByRecursion}
 use Rattle.std.proofs.lemmas.List.{take-append-le, drop-append-le, drop_at, take_all, map_push}
 use Rattle.std.proofs.lemmas.List.{length-drop, length-append, length-map, length-set, length_push}
@@ -13,6 +13,11 @@ use Rattle.cpa_sat_arena.specs.declared.store.Extent.{Extent}
 use Rattle.cpa_sat_arena.specs.Hashes.{clause_hash, IsIndexed}
 use Rattle.cpa_sat_arena.specs.Extents.{piece, clauses_of, hashes_of, hash_at, IsFiled, IsRoomy}
 use Rattle.cpa_sat_arena.proofs.Chaining.{indexed_alike, linked}
+
+-- what holds of any error
+pub on_err : {X E : Type 0} (r : Result X E) (P : Type 0) → P → OnErr r P
+on_err (Ok x) P p = tt
+on_err (Err e) P p = p
 
 more_piece : (xs ys : List ℕ) (e : Extent) → IsFiled xs e → piece (xs ++ ys) e ≡ piece xs e
 more_piece xs ys e f =

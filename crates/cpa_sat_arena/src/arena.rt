@@ -4,7 +4,9 @@
 ghost use Rattle.std.specs.Prelude.{◌≡◌, ◌≢◌, ◌<◌, ◌^◌, ℕ, [], ◌∷◌, ◌++◌, length, slice_index_or};
 ghost use Rattle.std.specs.Prelude.{IfSome, IfNone, OnOk, OnErr};
 ghost use Rattle.std.specs.List.{AllByRecursion};
+ghost use Rattle.cpa_sat_arena.specs.declared.literal.TheConstants.{NO_CLAUSE};
 
+use crate::literal::{ClauseRef, PackedLit};
 use crate::store::Store;
 use cpa_cnf::Clause;
 use std::alloc::{AllocError, Global};
@@ -49,11 +51,11 @@ impl Arena {
     }
 
     /// The literals of a clause.
-    pub fn clause(&self, number: u32) -> &[u32]
+    pub fn clause(&self, number: ClauseRef) -> &[PackedLit]
         requires { number < length self.now }
         ensures { result.now ≡ slice_index_or self.now number [] }
     {
-        self.store.clause(number)
+        self.store.clause(number.index())
     }
 
     /// Adds a clause at the end. Where memory runs out, or a clause would have a number or a place
@@ -61,13 +63,14 @@ impl Arena {
     pub fn push(&mut self, clause: &Clause) -> Result<(), AllocError>
         requires { AllByRecursion (λ l. l < 2 ^ 32) clause.now }
         ensures pushed { OnOk result (self.new ≡ self.old ++ clause.now ∷ []) }
+        ensures few { OnOk result (length self.new < NO_CLAUSE) }
         ensures kept { OnErr result (self.new ≡ self.old) }
     {
         self.store.push(clause)
     }
 
-    /// The number of a clause that is equal to this one, if one stands.
-    pub fn find(&self, clause: &Clause) -> Option<u32>
+    /// A clause that is equal to this one, if one stands.
+    pub fn find(&self, clause: &Clause) -> Option<ClauseRef>
         ensures some { IfSome result (λ k. k < length self.now) }
         ensures equal { IfSome result (λ k. slice_index_or self.now k [] ≡ clause.now) }
         ensures none { IfNone result ((k : ℕ) → k < length self.now

@@ -4,6 +4,8 @@
 
 mod arena;
 mod index;
+mod literal;
 mod store;
 
 pub use arena::Arena;
+pub use literal::{ClauseRef, LitPair, NO_CLAUSE, NO_LITERAL, PackedLit, Var, literal_count};

@@ -4,16 +4,24 @@
 ghost use Rattle.std.specs.Prelude.{◌≡◌, ◌+◌, ◌≢◌, ◌↔◌, ◌<◌, ◌*◌, ◌^◌, ◌++◌, ◌∷◌, ℕ, [], length};
 ghost use Rattle.std.specs.Prelude.{slice_index_or, IsTrue, IfSome, IfNone, IfOk, OnOk, OnErr};
 ghost use Rattle.std.specs.List.{AllByRecursion};
+ghost use Rattle.cpa_sat_arena.specs.declared.literal.TheConstants.{NO_CLAUSE};
 ghost use Rattle.cpa_sat_arena.specs.Extents.{hash_at, IsFiled, IsKept, IsRoomy, IsStored};
 ghost use Rattle.cpa_sat_arena.specs.Extents.{clauses_of, hashes_of};
 ghost use Rattle.cpa_sat_arena.specs.Hashes.{clause_hash, IsIndexed};
 
 use crate::index::{Index, hash_of};
+use crate::literal::{ClauseRef, NO_CLAUSE, PackedLit};
 use cpa_cnf::{Clause, Lit};
 use std::alloc::{AllocError, Global};
 
-/// The most clauses of an arena: u32::MAX is the number of none of them.
-const MOST_CLAUSES: usize = u32::MAX as usize - 1;
+/// The most clauses of an arena: `NO_CLAUSE` is the number of none of them.
+const MOST_CLAUSES: usize = NO_CLAUSE as usize - 1;
+
+/// The places that an index has for each clause.
+const PLACES_EACH: usize = 2;
+
+/// The places that it has besides.
+const SPARE_PLACES: usize = 64;
 
 /// Where the literals of a clause stand, and its hash.
 #[derive(Clone, Copy)]
@@ -27,19 +35,19 @@ pub(crate) struct Extent {
 #[derive(Drop)]
 pub(crate) struct Store {
     pub(crate) alloc: Global,
-    pub(crate) literals: Vec<u32>,
+    pub(crate) literals: Vec<PackedLit>,
     pub(crate) extents: Vec<Extent>,
     pub(crate) index: Index,
 }
 
 /// Adds the literals of a clause; where memory runs out, those that had room stay.
-fn push_literals(literals: &mut Vec<u32>, clause: &Clause) -> Result<(), AllocError>
+fn push_literals(literals: &mut Vec<PackedLit>, clause: &Clause) -> Result<(), AllocError>
     requires { AllByRecursion (λ l. l < 2 ^ 32) clause.now }
     ensures ok { OnOk result (literals.new.items ≡ literals.old.items ++ clause.now) }
     ensures err { OnErr result (IsKept literals.old.items literals.new.items) }
 {
     for literal in clause.literals() {
-        literals.push(literal.number() as u32)?;
+        literals.push(PackedLit::pack(*literal))?;
     }
     Ok(())
 }
@@ -47,7 +55,7 @@ fn push_literals(literals: &mut Vec<u32>, clause: &Clause) -> Result<(), AllocEr
 /// Adds the literals and the extent of a clause, and gives its hash; where memory runs out, the
 /// clauses stay.
 fn file(
-    literals: &mut Vec<u32>,
+    literals: &mut Vec<PackedLit>,
     extents: &mut Vec<Extent>,
     clause: &Clause,
 ) -> Result<u32, AllocError>
@@ -82,7 +90,7 @@ fn indexed(alloc: Global, extents: &[Extent]) -> Result<Index, AllocError>
     requires { length extents.now + 1 < 2 ^ 32 }
     ensures { IfOk result (IsRoomy extents.now) }
 {
-    let mut index = Index::new(alloc, extents.len() * 2 + 64)?;
+    let mut index = Index::new(alloc, extents.len() * PLACES_EACH + SPARE_PLACES)?;
     for number in 0..extents.len() {
         index.link(number as u32, extents[number].hash);
     }
@@ -105,7 +113,13 @@ fn make_room(alloc: Global, extents: &[Extent], index: &mut Index) -> Result<(),
 }
 
 /// Whether the clause of the number is this one, whose hash is known.
-fn is_clause(literals: &[u32], extents: &[Extent], number: u32, hash: u32, clause: &Clause) -> bool
+fn is_clause(
+    literals: &[PackedLit],
+    extents: &[Extent],
+    number: u32,
+    hash: u32,
+    clause: &Clause,
+) -> bool
     requires filed { AllByRecursion (IsFiled literals.now) extents.now }
     requires inside { number < length extents.now }
     requires hash { hash ≡ clause_hash clause.now }
@@ -118,14 +132,14 @@ fn is_clause(literals: &[u32], extents: &[Extent], number: u32, hash: u32, claus
 }
 
 /// Whether two lists of literals are equal.
-fn is_same(numbers: &[u32], literals: &[Lit]) -> bool
-    ensures { IsTrue result ↔ (numbers.now ≡ literals.now) }
+fn is_same(kept: &[PackedLit], literals: &[Lit]) -> bool
+    ensures { IsTrue result ↔ (kept.now ≡ literals.now) }
 {
-    if numbers.len() != literals.len() {
+    if kept.len() != literals.len() {
         return false;
     }
-    for i in 0..numbers.len() {
-        if numbers[i] as usize != literals[i].number() {
+    for i in 0..kept.len() {
+        if kept[i].index() != literals[i].number() {
             return false;
         }
     }
@@ -147,13 +161,13 @@ impl Store {
     }
 
     /// The literals of a clause.
-    pub(crate) fn clause(&self, number: u32) -> &[u32]
+    pub(crate) fn clause(&self, number: usize) -> &[PackedLit]
         requires stored { IsStored self.now }
         requires inside { number < length self.now.extents.items }
         ensures { result.now ≡ slice_index_or
             (clauses_of self.now.literals.items self.now.extents.items) number [] }
     {
-        let extent = self.extents[number as usize];
+        let extent = self.extents[number];
         &self.literals[extent.from as usize..extent.to as usize]
     }
 
@@ -166,6 +180,7 @@ impl Store {
         ensures pushed { OnOk result
             (clauses_of self.new.literals.items self.new.extents.items
             ≡ clauses_of self.old.literals.items self.old.extents.items ++ clause.now ∷ []) }
+        ensures few { OnOk result (length self.new.extents.items < NO_CLAUSE) }
         ensures kept { OnErr result (clauses_of self.new.literals.items self.new.extents.items
             ≡ clauses_of self.old.literals.items self.old.extents.items) }
     {
@@ -179,8 +194,8 @@ impl Store {
         Ok(())
     }
 
-    /// The number of a clause that is equal to this one, if one stands.
-    pub(crate) fn find(&self, clause: &Clause) -> Option<u32>
+    /// A clause that is equal to this one, if one stands.
+    pub(crate) fn find(&self, clause: &Clause) -> Option<ClauseRef>
         requires { IsStored self.now }
         ensures some { IfSome result (λ k. k < length self.now.extents.items) }
         ensures equal { IfSome result
@@ -195,7 +210,7 @@ impl Store {
         while link > 0 {
             let number = link - 1;
             if is_clause(&self.literals, &self.extents, number, hash, clause) {
-                return Some(number);
+                return Some(ClauseRef::new(number as usize));
             }
             link = self.index.next(number);
         }

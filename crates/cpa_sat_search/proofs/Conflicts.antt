@@ -11,7 +11,8 @@ use Rattle.cpa_cnf.specs.lemmas.Chains.{union_keeps_first}
 use Rattle.cpa_sat_search.specs.declared.analysis.Analysis.{Analysis}
 use Rattle.cpa_sat_trail.specs.declared.assertion.Jump.{Jump}
 use Rattle.cpa_sat_trail.specs.declared.trail.Trail.{Trail}
-use Rattle.cpa_sat_trail.specs.declared.trail.TheConstants.{NONE}
+use Rattle.cpa_sat_arena.specs.declared.literal.TheConstants.{NO_CLAUSE}
+use Rattle.cpa_sat_trail.specs.declared.trail.TheConstants.{NO_PLACE}
 use Rattle.cpa_sat_trail.specs.Trails.{IsTrail, IsReasonFor, height, lit_at, reason_at, place_of}
 use Rattle.cpa_sat_search.specs.Analyses.{AreFalseBefore, AreOthersBefore, GivesWay, HasUnion}
 use Rattle.cpa_sat_search.specs.Analyses.{IsAsserting}
@@ -42,21 +43,21 @@ pub true_unmarked : (a : Analysis) (t : Trail) (place : ℕ) → IsTrail t
     → marked a.marks.items (lit_at t place) ≡ true → ⊥
 true_unmarked a t place s untrue inside h =
     let here : place_of t (lit_at t place) ≡ place = s.stands place inside in
-    let none : place_of t (opposite (lit_at t place)) ≡ NONE =
+    let none : place_of t (opposite (lit_at t place)) ≡ NO_PLACE =
     s.one (lit_at t place) (s.below place inside)
     (λ e. far place (height t) t.vars inside s.short s.small (sym here ∙ e)) in
     far_below _ (height t) t.vars (untrue (lit_at t place) h) s.short s.small none
   where
-    far : (p n v : ℕ) → p < n → n ≤ v → v < 2 ^ 31 → p ≡ NONE → ⊥
+    far : (p n v : ℕ) → p < n → n ≤ v → v < 2 ^ 31 → p ≡ NO_PLACE → ⊥
     far p n v h k m e = absurd (omega arith)
 
-    far_below : (q n v : ℕ) → q < n → n ≤ v → v < 2 ^ 31 → q ≡ NONE → ⊥
+    far_below : (q n v : ℕ) → q < n → n ≤ v → v < 2 ^ 31 → q ≡ NO_PLACE → ⊥
     far_below q n v h k m e = absurd (omega arith)
 
 below_one : (p n : ℕ) → p < n + 1 → (p ≡ n → ⊥) → p < n
 below_one p n h ne = omega arith
 
-far : (p n v : ℕ) → p < n → n ≤ v → v < 2 ^ 31 → p ≡ NONE → ⊥
+far : (p n v : ℕ) → p < n → n ≤ v → v < 2 ^ 31 → p ≡ NO_PLACE → ⊥
 far p n v h k m e = absurd (omega arith)
 
 -- another marked literal than the one that became false at the place did so at another place
@@ -146,7 +147,7 @@ pub reducible : (a : Analysis) (t : Trail) (jump : Jump) (place literal : ℕ) �
     → marked a.marks.items literal ≡ true
     → (literal ≡ opposite (lit_at t jump.at) → ⊥) → place ≡ place_of t (opposite literal)
     → place < height t → opposite (lit_at t place) ≡ literal
-    → (reason_at t place ≡ NONE → ⊥) → IsReducible a t jump place
+    → (reason_at t place ≡ NO_CLAUSE → ⊥) → IsReducible a t jump place
 reducible a t jump place literal j here apart is inside back forced = record {
   inside = inside;
   forced = forced;

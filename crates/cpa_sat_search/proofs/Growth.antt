@@ -27,7 +27,7 @@ use Rattle.cpa_sat_search.specs.declared.engine.Turn.TheVariants.{Again, Satisfi
 use Rattle.cpa_sat_trail.specs.lemmas.Measure.{weight_below}
 use Rattle.cpa_sat_search.specs.declared.analysis.Analysis.{Analysis}
 use Rattle.cpa_sat_trail.specs.declared.assertion.Jump.{Jump}
-use Rattle.cpa_sat_trail.specs.declared.trail.TheConstants.{NONE}
+use Rattle.cpa_sat_arena.specs.declared.literal.TheConstants.{NO_CLAUSE}
 use Rattle.cpa_sat_search.specs.declared.engine.Search.{Search}
 
 -- the clauses of the numbers, once one more stands
@@ -151,7 +151,7 @@ pub state_more : (cnf : Cnf) (s t : Search) (line : Line) → IsState cnf s
     → IsGoodLine cnf.vars s.arena line → IsClause line.clause → line.clause ≢ []
     → IsFresh s.arena line.clause → t.arena ≡ s.arena ++ line.clause ∷ [] → t.trail ≡ s.trail
     → t.analysis ≡ s.analysis
-    → t.lines.items ≡ s.lines.items ++ line ∷ [] → length s.arena + 1 < NONE → IsState cnf t
+    → t.lines.items ≡ s.lines.items ++ line ∷ [] → length t.arena < NO_CLAUSE → IsState cnf t
 state_more cnf s t line st good sorted filled fresh arena trail analysis lines room = record {
   sound = subst (λ (cs : List (List ℕ)). IsSound cs t.trail) (sym arena)
       (subst (λ (u : Trail). IsSound (s.arena ++ line.clause ∷ []) u) (sym trail)
@@ -162,8 +162,7 @@ state_more cnf s t line st good sorted filled fresh arena trail analysis lines r
   idle = subst (λ (a : Analysis). IsIdle a) (sym analysis) st.idle;
   clauses = arena ∙ ap (λ (cs : List (List ℕ)). cs ++ line.clause ∷ []) st.clauses
       ∙ sym (known_more cnf s.lines.items line) ∙ ap (λ (ls : List Line). known cnf ls) (sym lines);
-  few = subst (λ n. n < NONE) (sym (ap (λ (cs : List (List ℕ)). length cs) arena
-      ∙ length_push s.arena line.clause)) room;
+  few = room;
   good = subst (λ (ls : List Line). AreGood cnf ls) (sym lines)
       (good_more cnf s.lines.items line st.good
       (subst (λ (cs : List (List ℕ)). IsGoodLine cnf.vars cs line) st.clauses good));
@@ -292,7 +291,7 @@ state_after cnf s t st sound r same = record {
   analysis_vars = ap (λ (a : Analysis). a.vars) same.analysis ∙ st.analysis_vars;
   idle = subst (λ (a : Analysis). IsIdle a) (sym same.analysis) st.idle;
   clauses = same.arena ∙ st.clauses ∙ ap (λ (ls : List Line). known cnf ls) (sym same.lines);
-  few = subst (λ (cs : List (List ℕ)). length cs < NONE) (sym same.arena) st.few;
+  few = subst (λ (cs : List (List ℕ)). length cs < NO_CLAUSE) (sym same.arena) st.few;
   good = subst (λ (ls : List Line). AreGood cnf ls) (sym same.lines) st.good;
   fresh = subst (λ (ls : List Line). AreNew cnf ls) (sym same.lines) st.fresh;
   filled = subst (λ (ls : List Line). AllByRecursion (λ (l : Line). l.clause ≢ []) ls)

@@ -15,7 +15,7 @@ use Rattle.cpa_cnf.specs.Lines.{AreBelow, known}
 use Rattle.cpa_cnf.specs.Models.{Satisfies, IsModel}
 use Rattle.cpa_cnf.specs.lemmas.Chains.{member_below}
 use Rattle.cpa_sat_search.specs.declared.engine.Search.{Search}
-use Rattle.cpa_sat_trail.specs.declared.trail.TheConstants.{NONE}
+use Rattle.cpa_sat_arena.specs.declared.literal.TheConstants.{NO_CLAUSE}
 use Rattle.cpa_sat_trail.specs.Trails.{IsTrail, height}
 use Rattle.cpa_sat_search.specs.Analyses.{IsIdle}
 use Rattle.cpa_sat_trail.specs.Findings.{AreSatisfied, AreValues}
@@ -43,7 +43,7 @@ small_literals vars xs h all = weaker (2 * vars) (2 ^ 32) xs (room vars h) all
 pub record IsLoading (cnf : Cnf) (behind arena : List (List ℕ)) : Type 0 where
   pub clauses : arena ++ behind ≡ cnf.clauses
   pub sorted : (k : ℕ) → IsClause (slice_index_or arena k [])
-  pub few : length arena < NONE
+  pub few : length arena < NO_CLAUSE
   pub below : AllByRecursion (AreBelow cnf.vars) behind
 
 pub loads_first : (cnf : Cnf) (behind arena : List (List ℕ)) → behind ≡ cnf.clauses → arena ≡ []
@@ -66,7 +66,7 @@ loads_small cnf clause last behind arena is vars l =
 
 pub loads_next : (cnf : Cnf) (clause : List ℕ) (last behind arena more : List (List ℕ))
     → last ≡ clause ∷ behind → IsLoading cnf last arena → more ≡ arena ++ clause ∷ []
-    → IsClause clause → length more < NONE → IsLoading cnf behind more
+    → IsClause clause → length more < NO_CLAUSE → IsLoading cnf behind more
 loads_next cnf clause last behind arena more is l next sorted few =
     record {
       clauses = ap (λ (cs : List (List ℕ)). cs ++ behind) next

@@ -11,11 +11,11 @@ use Rattle.std.proofs.lemmas.List.{get_or_past}
 use Rattle.cpa_cnf.specs.Clauses.{has, IsClause}
 use Rattle.cpa_cnf.specs.declared.formula.Step.{Step}
 use Rattle.cpa_cnf.specs.declared.formula.Line.{Line}
-use Rattle.cpa_cnf.specs.Literals.{opposite, literal_number}
+use Rattle.cpa_cnf.specs.Literals.{opposite}
 use Rattle.cpa_cnf.specs.Resolution.{clash_on, in_union_without, IsResolvent}
 use Rattle.cpa_cnf.specs.Lines.{AreBelow, Gives, IsGoodLine}
 use Rattle.cpa_cnf.specs.lemmas.Chains.{member_below}
-use Rattle.cpa_sat_trail.specs.declared.trail.TheConstants.{NONE}
+use Rattle.cpa_sat_arena.specs.declared.literal.TheConstants.{NO_LITERAL}
 use Rattle.cpa_sat_search.specs.declared.analysis.Analysis.{Analysis}
 use Rattle.cpa_sat_search.specs.Analyses.{AreNoted, HasMarksOf, HasUnion, IsDerived}
 use Rattle.cpa_cnf.specs.Marking.{marked, IsMarkedAs}
@@ -214,16 +214,19 @@ marked_inside marks l h = go (cases_lt l (length marks))
     go (inr past) = absurd (false≢true (sym (get_or_past marks l false past) ∙ h))
 
 -- what the first loop marks are the literals of the clause
-pub begun_marks : (vars : ℕ) (old new : List Bool) (clause : List ℕ) → vars < 2 ^ 31
-    → AreBelow vars clause → ((l : ℕ) → marked old l ≡ false)
-    → ((l : ℕ) → marked new l ≡ (marked old l || (has clause l && not (l == NONE)))) → (l : ℕ)
+pub begun_marks : (vars except : ℕ) (old new : List Bool) (read clause : List ℕ)
+    → except ≡ NO_LITERAL → read ≡ clause → vars < 2 ^ 31 → AreBelow vars clause
+    → ((l : ℕ) → marked old l ≡ false)
+    → ((l : ℕ) → marked new l ≡ (marked old l || (has read l && not (l == except)))) → (l : ℕ)
     → marked new l ≡ has clause l
-begun_marks vars old new clause small below blank marks l =
-    marks l ∙ ap (λ b. b || (has clause l && not (l == NONE))) (blank l)
-    ∙ and_true_right (has clause l) (not (l == NONE))
-    (λ h. not_eq l NONE (λ e. in_range (member_below vars clause l below h) e))
+begun_marks vars except old new read clause none same small below blank marks l =
+    marks l ∙ ap (λ b. b || (has read l && not (l == except))) (blank l)
+    ∙ ap (λ n. has read l && not (l == n)) none
+    ∙ ap (λ xs. has xs l && not (l == NO_LITERAL)) same
+    ∙ and_true_right (has clause l) (not (l == NO_LITERAL))
+    (λ h. not_eq l NO_LITERAL (λ e. in_range (member_below vars clause l below h) e))
   where
-    in_range : l < 2 * vars → l ≡ NONE → ⊥
+    in_range : l < 2 * vars → l ≡ NO_LITERAL → ⊥
     in_range h e = absurd (omega arith)
 
 pub begun : (cs : List (List ℕ)) (number : ℕ) (a : Analysis) → length a.marks.items ≡ 2 * a.vars
@@ -308,15 +311,6 @@ pub has_taken : (lits more : List ℕ) (marks : List Bool) (x y l : ℕ) → mor
 has_taken lits more marks x y l is same here =
     ap (λ (xs : List ℕ). has xs l) is ∙ has-push lits y l ∙ ap (λ z. has lits l || (z == l)) same
     ∙ sym (ap (λ b. has lits l || (b && (x == l))) here)
-
-pub literal_again : (x : ℕ) → literal_number (x / 2) (x % 2 == 1) ≡ x
-literal_again x = go (cases_eq (x % 2) 1)
-  where
-    go : (x % 2 ≡ 1) ⊎ (x % 2 ≡ 1 → ⊥) → literal_number (x / 2) (x % 2 == 1) ≡ x
-    go (inl odd) = let whole : 2 * (x / 2) + 1 ≡ x = omega arith in
-        ap (λ b. literal_number (x / 2) b) (eq-eqb (x % 2) 1 odd) ∙ whole
-    go (inr even) = let whole : 2 * (x / 2) ≡ x = omega arith in
-        ap (λ b. literal_number (x / 2) b) (ne_eqb (x % 2) 1 even) ∙ whole
 
 pub finished : (cs : List (List ℕ)) (a : Analysis) (line : Line) → IsDerived cs a
     → line.first ≡ a.first → line.steps ≡ a.steps.items

@@ -12,7 +12,7 @@ use Rattle.cpa_cnf.specs.Marking.{marked, IsBlank, IsMarkedAs}
 use Rattle.cpa_sat_search.specs.declared.analysis.Analysis.{Analysis}
 use Rattle.cpa_sat_trail.specs.declared.assertion.Jump.{Jump}
 use Rattle.cpa_sat_trail.specs.declared.trail.Trail.{Trail}
-use Rattle.cpa_sat_trail.specs.declared.trail.TheConstants.{NONE}
+use Rattle.cpa_sat_arena.specs.declared.literal.TheConstants.{NO_CLAUSE}
 use Rattle.cpa_sat_trail.specs.Trails.{IsTrail, IsJustified, height, lit_at, reason_at, place_of}
 use Rattle.cpa_sat_trail.specs.Trails.{AreClauses}
 
@@ -44,7 +44,7 @@ AreFalseBefore a t place = (l : ℕ) → marked a.marks.items l ≡ true → pla
 pub record IsAsserting (a : Analysis) (t : Trail) (jump : Jump) : Type 0 where
   pub inside : jump.at < height t
   pub above : jump.cut ≤ jump.at
-  pub decision : reason_at t jump.cut ≡ NONE
+  pub decision : reason_at t jump.cut ≡ NO_CLAUSE
   pub in_it : marked a.marks.items (opposite (lit_at t jump.at)) ≡ true
   pub others : (l : ℕ) → marked a.marks.items l ≡ true → l ≢ opposite (lit_at t jump.at)
       → place_of t (opposite l) < jump.cut
@@ -91,7 +91,7 @@ AreOthersBefore a t kept place =
 -- a decision at or below the place `at`, behind all other marked literals
 pub record IsCut (a : Analysis) (t : Trail) (at cut : ℕ) : Type 0 where
   pub above : cut ≤ at
-  pub decision : reason_at t cut ≡ NONE
+  pub decision : reason_at t cut ≡ NO_CLAUSE
   pub others : AreOthersBefore a t (opposite (lit_at t at)) cut
 
 -- The chain may stop with this jump, or else all marked literals are false before the place.
@@ -107,7 +107,7 @@ IsConcluded t a (Some jump) = IsAsserting a t jump
 -- the literal that became false at the place can be resolved away, and the jump stays
 pub record IsReducible (a : Analysis) (t : Trail) (jump : Jump) (place : ℕ) : Type 0 where
   pub inside : place < height t
-  pub forced : reason_at t place ≢ NONE
+  pub forced : reason_at t place ≢ NO_CLAUSE
   pub here : marked a.marks.items (opposite (lit_at t place)) ≡ true
   pub apart : opposite (lit_at t place) ≢ opposite (lit_at t jump.at)
   pub below : place < jump.cut

@@ -10,7 +10,7 @@ use Rattle.cpa_sat_search.specs.declared.engine.Learned.{Learned}
 use Rattle.cpa_sat_search.specs.declared.engine.Search.{Search}
 use Rattle.cpa_sat_search.specs.declared.engine.Turn.{Turn}
 use Rattle.cpa_sat_search.specs.declared.engine.Turn.TheVariants.{Again, Satisfied, Refuted, Spent}
-use Rattle.cpa_sat_trail.specs.declared.trail.TheConstants.{NONE}
+use Rattle.cpa_sat_arena.specs.declared.literal.TheConstants.{NO_CLAUSE}
 use Rattle.cpa_sat_search.specs.Analyses.{IsIdle}
 use Rattle.cpa_sat_trail.specs.Findings.{AreSatisfied}
 use Rattle.cpa_sat_search.specs.Fresh.{AreNew}
@@ -30,7 +30,7 @@ pub record IsState (cnf : Cnf) (s : Search) : Type 0 where
   pub analysis_vars : s.analysis.vars ≡ cnf.vars
   pub idle : IsIdle s.analysis
   pub clauses : s.arena ≡ known cnf s.lines.items
-  pub few : length s.arena < NONE
+  pub few : length s.arena < NO_CLAUSE
   pub good : AreGood cnf s.lines.items
   pub fresh : AreNew cnf s.lines.items
   pub filled : AllByRecursion (λ (line : Line). line.clause ≢ []) s.lines.items
@@ -71,4 +71,4 @@ IsNumberOf clauses clause number = (number < length clauses)
 pub record AreLoaded (cnf : Cnf) (count : ℕ) (arena : List (List ℕ)) : Type 0 where
   pub clauses : arena ≡ take count cnf.clauses
   pub sorted : (k : ℕ) → IsClause (slice_index_or (take count cnf.clauses) k [])
-  pub few : length arena < NONE
+  pub few : length arena < NO_CLAUSE

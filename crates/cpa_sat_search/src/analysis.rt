@@ -13,8 +13,8 @@ ghost use Rattle.cpa_sat_search.specs.Analyses.{IsDerived};
 
 use cpa_cnf::{Clause, Line, Lit, Step};
 use cpa_ints::Seq;
-use cpa_sat_arena::Arena;
-use cpa_sat_trail::{NONE, Trail, flip};
+use cpa_sat_arena::{Arena, ClauseRef, PackedLit, literal_count};
+use cpa_sat_trail::Trail;
 use std::alloc::{AllocError, Global};
 use std::mem;
 
@@ -24,9 +24,9 @@ pub(crate) struct Analysis {
     pub(crate) vars: u32,
     pub(crate) marks: Vec<bool>,
     /// The literals that were marked at some time.
-    pub(crate) touched: Vec<u32>,
-    /// The number of the clause that the chain begins with.
-    pub(crate) first: u32,
+    pub(crate) touched: Vec<PackedLit>,
+    /// The clause that the chain begins with.
+    pub(crate) first: ClauseRef,
     pub(crate) steps: Vec<Step>,
     /// The place from which marked literals are counted, and their number: a hint alone.
     pub(crate) from: u32,
@@ -41,9 +41,9 @@ impl Analysis {
     {
         Ok(Analysis {
             vars,
-            marks: vec![in alloc; false; vars as usize * 2]?,
+            marks: vec![in alloc; false; literal_count(vars)]?,
             touched: Vec::new(alloc),
-            first: 0,
+            first: ClauseRef::none(),
             steps: Vec::new(alloc),
             from: 0,
             live: 0,
@@ -51,7 +51,7 @@ impl Analysis {
     }
 
     /// Marks a literal, and counts it if it became false late.
-    fn mark(&mut self, literal: u32, place: u32) -> Result<(), AllocError>
+    fn mark(&mut self, literal: PackedLit, place: u32) -> Result<(), AllocError>
         requires inside { literal < length self.old.marks.items }
         requires noted { AreNoted self.old }
         ensures marks { OnOk result ((l : ℕ)
@@ -59,10 +59,11 @@ impl Analysis {
         ensures noted { OnOk result (AreNoted self.new) }
         ensures same { OnOk result (IsAsBefore self.old self.new) }
     {
-        if self.marks[literal as usize] {
+        let at = literal.index();
+        if self.marks[at] {
             return Ok(());
         }
-        self.marks[literal as usize] = true;
+        self.marks[at] = true;
         self.count(place);
         self.touched.push(literal)?;
         Ok(())
@@ -78,7 +79,12 @@ impl Analysis {
     }
 
     /// Marks the literals of a clause but for one.
-    fn mark_others(&mut self, trail: &Trail, clause: &[u32], except: u32) -> Result<(), AllocError>
+    fn mark_others(
+        &mut self,
+        trail: &Trail,
+        clause: &[PackedLit],
+        except: PackedLit,
+    ) -> Result<(), AllocError>
         requires trail { IsTrail trail.now }
         requires vars { trail.now.vars ≡ self.old.vars }
         requires long { length self.old.marks.items ≡ 2 * self.old.vars }
@@ -92,7 +98,7 @@ impl Analysis {
     {
         for literal in clause {
             if *literal != except {
-                let place = trail.places[flip(*literal) as usize];
+                let place = trail.places[literal.opposite().index()];
                 self.mark(*literal, place)?;
             }
         }
@@ -112,7 +118,7 @@ impl Analysis {
         &mut self,
         arena: &Arena,
         trail: &Trail,
-        number: u32,
+        number: ClauseRef,
     ) -> Result<(), AllocError>
         requires trail { IsTrail trail.now }
         requires vars { trail.now.vars ≡ self.old.vars }
@@ -126,7 +132,7 @@ impl Analysis {
         self.touched.clear();
         self.steps.clear();
         self.first = number;
-        self.mark_others(trail, arena.clause(number), NONE)?;
+        self.mark_others(trail, arena.clause(number), PackedLit::none())?;
         Ok(())
     }
 
@@ -135,8 +141,8 @@ impl Analysis {
         &mut self,
         arena: &Arena,
         trail: &Trail,
-        literal: u32,
-        number: u32,
+        literal: PackedLit,
+        number: ClauseRef,
     ) -> Result<(), AllocError>
         requires trail { IsTrail trail.now }
         requires vars { trail.now.vars ≡ self.old.vars }
@@ -152,26 +158,25 @@ impl Analysis {
         ensures union { OnOk result (HasUnion self.old (slice_index_or arena.now number []) literal
             self.new) }
     {
-        self.marks[literal as usize] = false;
+        self.marks[literal.index()] = false;
         self.live = self.live.wrapping_sub(1);
-        self.mark_others(trail, arena.clause(number), flip(literal))?;
-        self.steps.push(Step {
-            pivot: literal / 2,
-            clause: number,
-        })?;
+        self.mark_others(trail, arena.clause(number), literal.opposite())?;
+        let pivot = literal.var().number();
+        let clause = number.number();
+        self.steps.push(Step { pivot, clause })?;
         Ok(())
     }
 
     /// Whether the literal is marked.
-    pub(crate) fn is_marked(&self, literal: u32) -> bool
+    pub(crate) fn is_marked(&self, literal: PackedLit) -> bool
         ensures { result ≡ marked self.now.marks.items literal }
     {
-        let number = literal as usize;
+        let number = literal.index();
         number < self.marks.len() && self.marks[number]
     }
 
     /// Takes the mark off a literal, if it has one, and adds the literal to those that had one.
-    fn take(&mut self, literal: u32, literals: &mut Vec<Lit>) -> Result<(), AllocError>
+    fn take(&mut self, literal: PackedLit, literals: &mut Vec<Lit>) -> Result<(), AllocError>
         ensures taken { OnOk result ((l : ℕ)
             → has literals.new.items l
             ≡ (has literals.old.items l
@@ -183,8 +188,8 @@ impl Analysis {
         ensures touched { OnOk result (self.new.touched.items ≡ self.old.touched.items) }
     {
         if self.is_marked(literal) {
-            literals.push(Lit::new(literal / 2, literal % 2 == 1))?;
-            self.marks[literal as usize] = false;
+            literals.push(literal.unpack())?;
+            self.marks[literal.index()] = false;
         }
         Ok(())
     }
@@ -219,7 +224,7 @@ impl Analysis {
         let steps = Seq::from_vec(mem::replace(&mut self.steps, Vec::new(alloc)));
         Ok(Line {
             clause,
-            first: self.first,
+            first: self.first.number(),
             steps,
         })
     }

@@ -5,6 +5,7 @@ ghost use Rattle.std.specs.Prelude.{◌≡◌, ◌≢◌, ◌<◌, ◌≤◌, �
 ghost use Rattle.std.specs.Prelude.{slice_index_or, OnOk, IfOk, IfSome, IfNone, IsTrue};
 ghost use Rattle.cpa_cnf.specs.Literals.{opposite};
 ghost use Rattle.cpa_cnf.specs.Marking.{marked};
+ghost use Rattle.cpa_sat_arena.specs.declared.literal.TheConstants.{NO_CLAUSE};
 ghost use Rattle.cpa_sat_trail.specs.Trails.{IsFalse, IsTrail, IsJustified, height, lit_at};
 ghost use Rattle.cpa_sat_trail.specs.Trails.{reason_at};
 ghost use Rattle.cpa_sat_trail.specs.Trails.{place_of, AreClauses};
@@ -16,8 +17,8 @@ ghost use Rattle.cpa_sat_search.specs.Analyses.{IsStepped, IsDerived, IsIdle};
 
 use crate::analysis::Analysis;
 use crate::redundancy::Redundancy;
-use cpa_sat_arena::Arena;
-use cpa_sat_trail::{Jump, NONE, Trail, flip};
+use cpa_sat_arena::{Arena, ClauseRef, PackedLit};
+use cpa_sat_trail::{Jump, Trail};
 use std::alloc::AllocError;
 
 /// Resolves the marked literal that became false at the place with the clause that forced it.
@@ -29,13 +30,13 @@ fn resolve_at(
 ) -> Result<(), AllocError>
     requires analysing { IsAnalysing arena.now trail.now analysis.old }
     requires inside { place < height trail.now }
-    requires forced { reason_at trail.now place ≢ NONE }
+    requires forced { reason_at trail.now place ≢ NO_CLAUSE }
     requires here { marked analysis.old.marks.items (opposite (lit_at trail.now place)) ≡ true }
     requires untrue { AreFalseBefore analysis.old trail.now (height trail.now) }
     ensures analysing { OnOk result (IsAnalysing arena.now trail.now analysis.new) }
     ensures gives_way { OnOk result (GivesWay analysis.old trail.now place analysis.new) }
 {
-    let literal = flip(trail.lits[place]);
+    let literal = trail.lits[place].opposite();
     let number = trail.reasons[place];
     analysis.resolve(arena, trail, literal, number)?;
     Ok(())
@@ -51,7 +52,7 @@ fn later(a: usize, b: usize) -> usize
 }
 
 /// The least place before which all marked literals but one became false.
-fn low_of(analysis: &Analysis, trail: &Trail, kept: u32) -> usize
+fn low_of(analysis: &Analysis, trail: &Trail, kept: PackedLit) -> usize
     requires trail { IsTrail trail.now }
     requires vars { trail.now.vars ≡ analysis.now.vars }
     requires long { length analysis.now.marks.items ≡ 2 * analysis.now.vars }
@@ -67,7 +68,7 @@ fn low_of(analysis: &Analysis, trail: &Trail, kept: u32) -> usize
 }
 
 /// The place behind the one at which the literal became false, if it is marked and not `kept`.
-fn after(analysis: &Analysis, trail: &Trail, kept: u32, literal: u32) -> usize
+fn after(analysis: &Analysis, trail: &Trail, kept: PackedLit, literal: PackedLit) -> usize
     requires trail { IsTrail trail.now }
     requires vars { trail.now.vars ≡ analysis.now.vars }
     requires long { length analysis.now.marks.items ≡ 2 * analysis.now.vars }
@@ -76,7 +77,7 @@ fn after(analysis: &Analysis, trail: &Trail, kept: u32, literal: u32) -> usize
     ensures least { (n : ℕ) → AreOthersBefore analysis.now trail.now kept n → result ≤ n }
 {
     if literal != kept && analysis.is_marked(literal) {
-        trail.places[flip(literal) as usize] as usize + 1
+        trail.places[literal.opposite().index()] as usize + 1
     } else {
         0
     }
@@ -91,11 +92,11 @@ fn find_cut(analysis: &Analysis, trail: &Trail, at: usize) -> Option<usize>
     requires inside { at < height trail.now }
     ensures some { IfSome result (IsCut analysis.now trail.now at) }
     ensures none { IfNone result (AreOthersBefore analysis.now trail.now
-        (opposite (lit_at trail.now at)) at → reason_at trail.now at ≢ NONE) }
+        (opposite (lit_at trail.now at)) at → reason_at trail.now at ≢ NO_CLAUSE) }
 {
-    let low = low_of(analysis, trail, flip(trail.lits[at]));
+    let low = low_of(analysis, trail, trail.lits[at].opposite());
     for cut in low..at + 1 {
-        if trail.reasons[cut] == NONE {
+        if trail.reasons[cut].is_none() {
             return Some(cut);
         }
     }
@@ -112,9 +113,9 @@ fn choose_cut(analysis: &Analysis, trail: &Trail, at: usize) -> Option<usize>
     requires inside { at < height trail.now }
     ensures some { IfSome result (IsCut analysis.now trail.now at) }
     ensures none { IfNone result (AreOthersBefore analysis.now trail.now
-        (opposite (lit_at trail.now at)) at → reason_at trail.now at ≢ NONE) }
+        (opposite (lit_at trail.now at)) at → reason_at trail.now at ≢ NO_CLAUSE) }
 {
-    if trail.reasons[at] == NONE || analysis.live == 1 {
+    if trail.reasons[at].is_none() || analysis.live == 1 {
         find_cut(analysis, trail, at)
     } else {
         None
@@ -169,7 +170,7 @@ fn can_give_way(analysis: &Analysis, trail: &Trail, jump: Jump, place: usize) ->
     ensures { IsTrue result → IsReducible analysis.now trail.now jump place }
 {
     place < jump.cut
-        && trail.reason(place) != NONE
+        && !trail.reason(place).is_none()
         && analysis.is_marked(trail.false_at(place))
         && trail.false_at(place) != trail.false_at(jump.at)
 }
@@ -241,7 +242,7 @@ pub(crate) fn analyse(
     redundancy: &mut Redundancy,
     arena: &Arena,
     trail: &Trail,
-    number: u32,
+    number: ClauseRef,
 ) -> Result<Option<Jump>, AllocError>
     requires trail { IsTrail trail.now }
     requires vars { trail.now.vars ≡ analysis.old.vars }
@@ -266,13 +267,13 @@ pub(crate) fn analyse(
 }
 
 /// The place of the last decision before all literals of the clause are false: a hint alone.
-fn level_start(trail: &Trail, clause: &[u32]) -> u32 {
+fn level_start(trail: &Trail, clause: &[PackedLit]) -> u32 {
     let mut top = 0;
     for literal in clause {
         top = trail.when_false(*literal).max(top);
     }
     for place in (0..trail.reasons.len()).rev() {
-        if place <= top as usize && trail.reasons[place] == NONE {
+        if place <= top as usize && trail.reasons[place].is_none() {
             return place as u32;
         }
     }

@@ -5,7 +5,7 @@ ghost use Rattle.std.specs.Prelude.{◌≡◌, ◌≢◌, ◌<◌, ◌≤◌, �
 ghost use Rattle.std.specs.Prelude.{length, slice_index_or, OnOk, IfOk, IfSome, IfNone};
 ghost use Rattle.cpa_cnf.specs.Clauses.{IsClause};
 ghost use Rattle.cpa_cnf.specs.Lines.{IsGoodLine};
-ghost use Rattle.cpa_sat_trail.specs.declared.trail.TheConstants.{NONE};
+ghost use Rattle.cpa_sat_arena.specs.declared.literal.TheConstants.{NO_CLAUSE};
 ghost use Rattle.cpa_sat_trail.specs.Trails.{IsFalse, IsTrail, height};
 ghost use Rattle.cpa_sat_trail.specs.Findings.{IsOpen};
 ghost use Rattle.cpa_sat_trail.specs.Progress.{Asserts, IsRisen, IsSound, progress};
@@ -18,9 +18,9 @@ use crate::conflict::analyse;
 use crate::quality::Quality;
 use crate::redundancy::Redundancy;
 use cpa_cnf::{Cnf, Line};
-use cpa_sat_arena::Arena;
+use cpa_sat_arena::{Arena, ClauseRef, PackedLit};
 use cpa_sat_trail::{
-    Jump, NONE, Order, Restarts, Trail, Watches, decide, force_units, is_open, jump_back,
+    Jump, NO_PLACE, Order, Restarts, Trail, Watches, decide, force_units, is_open, jump_back,
     open_literal, propagate, unsatisfied, watch_clause,
 };
 use std::alloc::{AllocError, Global};
@@ -56,7 +56,7 @@ pub(crate) enum Turn {
 }
 
 /// The next literal to decide, by the order.
-fn pick(order: &mut Order, trail: &Trail) -> Option<u32>
+fn pick(order: &mut Order, trail: &Trail) -> Option<PackedLit>
     requires { IsTrail trail.now }
     ensures { IfSome result (IsOpen trail.now) }
 {
@@ -71,7 +71,7 @@ fn pick(order: &mut Order, trail: &Trail) -> Option<u32>
 
 impl Search {
     /// Propagates; the number of a clause that is false, if there is one.
-    fn propagate_trail(&mut self) -> Result<Option<u32>, AllocError>
+    fn propagate_trail(&mut self) -> Result<Option<ClauseRef>, AllocError>
         requires { IsSound self.old.arena self.old.trail }
         ensures sound { OnOk result (IsSound self.new.arena self.new.trail) }
         ensures rises { OnOk result (IsRisen self.old.trail self.new.trail) }
@@ -85,7 +85,7 @@ impl Search {
     }
 
     /// The line of the chain from a clause that is false, and the jump that its clause forces.
-    fn analyse(&mut self, cnf: &Cnf, number: u32) -> Result<Learned, AllocError>
+    fn analyse(&mut self, cnf: &Cnf, number: ClauseRef) -> Result<Learned, AllocError>
         requires state { IsState cnf.now self.old }
         requires inside { number < length self.old.arena }
         requires untrue { IsFalse (slice_index_or self.old.arena number []) self.old.trail }
@@ -117,9 +117,6 @@ impl Search {
         ensures lines { OnOk result (self.new.lines.items ≡ self.old.lines.items ++ line ∷ []) }
     {
         let _vars = cnf.vars;
-        if self.arena.len() >= NONE as usize - 1 {
-            return Err(AllocError);
-        }
         self.watches.add()?;
         self.quality.add(self.redundancy.distance)?;
         self.arena.push(&line.clause)?;
@@ -128,7 +125,7 @@ impl Search {
     }
 
     /// Jumps back, and puts the variables whose literals go into the order again.
-    fn backjump(&mut self, cnf: &Cnf, jump: Jump, number: u32) -> Result<(), AllocError>
+    fn backjump(&mut self, cnf: &Cnf, jump: Jump, number: ClauseRef) -> Result<(), AllocError>
         requires state { IsState cnf.now self.old }
         requires inside { number < length self.old.arena }
         requires asserts { Asserts (slice_index_or self.old.arena number []) self.old.trail jump }
@@ -168,7 +165,7 @@ impl Search {
         &mut self,
         cnf: &Cnf,
         jump: Jump,
-        number: u32,
+        number: ClauseRef,
         learnt: u32,
     ) -> Result<Turn, AllocError>
         requires state { IsState cnf.now self.old }
@@ -195,7 +192,7 @@ impl Search {
         if self.lines.len() >= learnt as usize {
             return Ok(Turn::Spent);
         }
-        let number = self.arena.len() as u32;
+        let number = ClauseRef::new(self.arena.len());
         self.add(cnf, line)?;
         self.watch(cnf, number)?;
         self.backjump(cnf, jump, number)?;
@@ -205,7 +202,7 @@ impl Search {
     }
 
     /// Watches two literals of a clause.
-    fn watch(&mut self, cnf: &Cnf, number: u32) -> Result<(), AllocError>
+    fn watch(&mut self, cnf: &Cnf, number: ClauseRef) -> Result<(), AllocError>
         requires state { IsState cnf.now self.old }
         requires inside { number < length self.old.arena }
         ensures state { OnOk result (IsState cnf.now self.new) }
@@ -260,7 +257,7 @@ impl Search {
 
 impl Search {
     /// Learns from a clause that is false, and jumps back; or ends.
-    fn conflict(&mut self, cnf: &Cnf, number: u32, learnt: u32) -> Result<Turn, AllocError>
+    fn conflict(&mut self, cnf: &Cnf, number: ClauseRef, learnt: u32) -> Result<Turn, AllocError>
         requires state { IsState cnf.now self.old }
         requires within { length self.old.lines.items ≤ learnt }
         requires inside { number < length self.old.arena }
@@ -296,8 +293,8 @@ impl Search {
     }
 
     /// The number of the clause that is the line's.
-    fn find(&self, line: &Line) -> Option<u32>
-        requires { length self.now.arena < NONE }
+    fn find(&self, line: &Line) -> Option<ClauseRef>
+        requires { length self.now.arena < NO_CLAUSE }
         ensures some { IfSome result (IsNumberOf self.now.arena line.now.clause) }
         ensures none { IfNone result ((k : ℕ) → k < length self.now.arena
             → slice_index_or self.now.arena k [] ≢ line.now.clause) }
@@ -306,7 +303,7 @@ impl Search {
     }
 
     /// Decides that a literal is true.
-    fn decide(&mut self, cnf: &Cnf, literal: u32, learnt: u32) -> Result<Turn, AllocError>
+    fn decide(&mut self, cnf: &Cnf, literal: PackedLit, learnt: u32) -> Result<Turn, AllocError>
         requires state { IsState cnf.now self.old }
         requires within { length self.old.lines.items ≤ learnt }
         requires open { IsOpen self.old.trail literal }
@@ -350,7 +347,7 @@ impl Search {
     }
 
     /// Propagates, and keeps the state.
-    pub(crate) fn propagate(&mut self, cnf: &Cnf) -> Result<Option<u32>, AllocError>
+    pub(crate) fn propagate(&mut self, cnf: &Cnf) -> Result<Option<ClauseRef>, AllocError>
         requires { IsState cnf.now self.old }
         ensures state { OnOk result (IsState cnf.now self.new) }
         ensures lines { OnOk result (self.new.lines.items ≡ self.old.lines.items) }
@@ -366,7 +363,7 @@ impl Search {
     pub(crate) fn step(
         &mut self,
         cnf: &Cnf,
-        found: Option<u32>,
+        found: Option<ClauseRef>,
         learnt: u32,
     ) -> Result<Turn, AllocError>
         requires state { IsState cnf.now self.old }
@@ -383,7 +380,7 @@ impl Search {
 
 impl Search {
     /// Makes the literals of unit clauses true; the number of a clause that is false, if one is.
-    fn force_units(&mut self, cnf: &Cnf) -> Result<Option<u32>, AllocError>
+    fn force_units(&mut self, cnf: &Cnf) -> Result<Option<ClauseRef>, AllocError>
         requires { IsState cnf.now self.old }
         ensures state { OnOk result (IsState cnf.now self.new) }
         ensures lines { OnOk result (self.new.lines.items ≡ self.old.lines.items) }
@@ -397,7 +394,7 @@ impl Search {
     }
 
     /// Propagates the unit clauses; the number of a clause that is false, if one is.
-    pub(crate) fn begin(&mut self, cnf: &Cnf) -> Result<Option<u32>, AllocError>
+    pub(crate) fn begin(&mut self, cnf: &Cnf) -> Result<Option<ClauseRef>, AllocError>
         requires { IsState cnf.now self.old }
         ensures state { OnOk result (IsState cnf.now self.new) }
         ensures lines { OnOk result (self.new.lines.items ≡ self.old.lines.items) }
@@ -416,7 +413,7 @@ fn first_decision(trail: &Trail, from: usize) -> usize
     ensures { result ≤ height trail.now }
 {
     for place in from..trail.lits.len() {
-        if trail.reason(place) == NONE {
+        if trail.reason(place).is_none() {
             return place;
         }
     }
@@ -430,23 +427,24 @@ fn watch_kept(
     arena: &Arena,
     ground: &Trail,
 ) -> Result<(), AllocError>
-    requires { length arena.now < NONE }
+    requires { length arena.now < NO_CLAUSE }
 {
     watches.reset();
     for number in 0..arena.len() {
-        let clause = arena.clause(number as u32);
+        let reference = ClauseRef::new(number);
+        let clause = arena.clause(reference);
         if quality.is_kept(number) && !is_settled(ground, clause) {
-            watch_clause(watches, ground, clause, number as u32)?;
+            watch_clause(watches, ground, clause, reference)?;
         }
     }
     Ok(())
 }
 
 /// Whether a literal of the clause is true.
-fn is_settled(trail: &Trail, clause: &[u32]) -> bool {
+fn is_settled(trail: &Trail, clause: &[PackedLit]) -> bool {
     clause
         .iter()
-        .any(|literal| trail.when_false(*literal ^ 1) != NONE)
+        .any(|literal| trail.when_false(literal.opposite()) != NO_PLACE)
 }
 
 /// Puts the variables of the literals from the place on into the order again.
@@ -460,7 +458,7 @@ fn release(order: &mut Order, trail: &Trail, from: usize) -> Result<(), AllocErr
 /// Raises the activities of the variables that the analysis met.
 fn bump(order: &mut Order, analysis: &Analysis) {
     for literal in &analysis.touched {
-        order.bump(*literal / 2);
+        order.bump(literal.var());
     }
     order.decay();
 }

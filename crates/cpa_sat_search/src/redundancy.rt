@@ -2,8 +2,8 @@
 //! levels it has (Audemard and Simon 2009). Nothing rests on either but speed.
 
 use crate::analysis::Analysis;
-use cpa_sat_arena::Arena;
-use cpa_sat_trail::{NONE, Trail};
+use cpa_sat_arena::{Arena, PackedLit};
+use cpa_sat_trail::{Level, NO_PLACE, Trail};
 use std::alloc::{AllocError, Global};
 
 /// The most places that are looked at for one literal.
@@ -57,8 +57,8 @@ impl Redundancy {
     }
 
     /// Takes a level; whether it was not taken yet.
-    fn is_new(&mut self, level: u32) -> bool {
-        let at = level as usize;
+    fn is_new(&mut self, level: Level) -> bool {
+        let at = level.index();
         if at >= self.stamps.len() || self.stamps[at] == self.stamp {
             return false;
         }
@@ -67,8 +67,8 @@ impl Redundancy {
     }
 
     /// Whether a marked literal has the level, or no decision stands before it.
-    fn has_level(&self, level: u32) -> bool {
-        level == 0 || self.stamps.get(level as usize).copied() == Some(self.stamp)
+    fn has_level(&self, level: Level) -> bool {
+        level.is_ground() || self.stamps.get(level.index()).copied() == Some(self.stamp)
     }
 
     /// Forgets the places that became known after so many others.
@@ -81,7 +81,7 @@ impl Redundancy {
 
     /// Forgets what is known of the place that became known as number `k`.
     fn forget_one(&mut self, k: usize) {
-        let place = self.known.get(k).copied().unwrap_or(NONE) as usize;
+        let place = self.known.get(k).copied().unwrap_or(NO_PLACE) as usize;
         if place < self.implied.len() {
             self.implied[place] = false;
         }
@@ -124,7 +124,7 @@ impl Redundancy {
         trail: &Trail,
         place: u32,
     ) -> Result<(), AllocError> {
-        if trail.why(place) == NONE || self.is_implied(place) {
+        if trail.why(place).is_none() || self.is_implied(place) {
             return Ok(());
         }
         let before = self.known.len();
@@ -166,7 +166,7 @@ impl Redundancy {
         place: u32,
     ) -> Result<bool, AllocError> {
         let number = trail.why(place);
-        if number as usize >= arena.len() {
+        if number.index() >= arena.len() {
             return Ok(false);
         }
         for literal in arena.clause(number) {
@@ -183,13 +183,13 @@ impl Redundancy {
         &mut self,
         analysis: &Analysis,
         trail: &Trail,
-        literal: u32,
+        literal: PackedLit,
     ) -> Result<bool, AllocError> {
         let place = trail.when_false(literal);
-        if place == NONE || analysis.is_marked(literal) || self.is_implied(place) {
+        if place == NO_PLACE || analysis.is_marked(literal) || self.is_implied(place) {
             return Ok(true);
         }
-        if trail.why(place) == NONE || !self.has_level(trail.level(place)) {
+        if trail.why(place).is_none() || !self.has_level(trail.level(place)) {
             return Ok(false);
         }
         self.assume(place)?;

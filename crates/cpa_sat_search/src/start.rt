@@ -6,7 +6,7 @@ ghost use Rattle.std.specs.List.{AllByRecursion};
 ghost use Rattle.cpa_cnf.specs.Clauses.{IsClause};
 ghost use Rattle.cpa_cnf.specs.Lines.{AreBelow};
 ghost use Rattle.cpa_cnf.specs.Models.{IsModel};
-ghost use Rattle.cpa_sat_trail.specs.declared.trail.TheConstants.{NONE};
+ghost use Rattle.cpa_sat_arena.specs.declared.literal.TheConstants.{NO_CLAUSE};
 ghost use Rattle.cpa_sat_trail.specs.Findings.{AreSatisfied};
 ghost use Rattle.cpa_sat_search.specs.Endings.{IsEnding};
 ghost use Rattle.cpa_sat_search.specs.States.{AreLoaded, IsState};
@@ -18,20 +18,17 @@ use crate::quality::Quality;
 use crate::redundancy::Redundancy;
 use cpa_cnf::{Clause, Cnf, Line};
 use cpa_sat_arena::Arena;
-use cpa_sat_trail::{NONE, Order, Restarts, Trail, VARS_LIMIT, values, watch_all};
+use cpa_sat_trail::{Order, Restarts, Trail, VARS_LIMIT, values, watch_all};
 use std::alloc::{AllocError, Global};
 use std::mem;
 
-/// Adds a clause of a formula, unless its number would be too great.
+/// Adds a clause of a formula, whose literals rise.
 fn load_clause(arena: &mut Arena, clause: &Clause) -> Result<(), AllocError>
     requires { AllByRecursion (λ l. l < 2 ^ 32) clause.now }
     ensures loaded { OnOk result (arena.new ≡ arena.old ++ clause.now ∷ []) }
     ensures sorted { OnOk result (IsClause clause.now) }
-    ensures few { OnOk result (length arena.new < NONE) }
+    ensures few { OnOk result (length arena.new < NO_CLAUSE) }
 {
-    if arena.len() >= NONE as usize - 1 {
-        return Err(AllocError);
-    }
     let _sorted = clause.literals();
     arena.push(clause)?;
     Ok(())
@@ -119,7 +116,7 @@ fn run(search: &mut Search, cnf: &Cnf, learnt: u32) -> Result<Found, AllocError>
 
 /// Searches for a model of the formula, or a refutation of at most `learnt` lines. Where neither is
 /// found within `learnt` lines, it gives these. Want of memory is also answered where the formula
-/// has 2^31 variables, or 2^32 - 2 clauses would stand.
+/// has 2^31 variables, or more than 2^32 - 2 clauses would stand.
 pub fn solve(alloc: Global, cnf: &Cnf, learnt: u32) -> Result<Found, AllocError>
     requires { AllByRecursion (AreBelow cnf.now.vars) cnf.now.clauses }
     ensures { IfOk result (IsEnding cnf.now learnt) }

@@ -6,14 +6,14 @@ use Rattle.cpa_cnf.specs.Literals.{opposite}
 use Rattle.cpa_cnf.specs.Clauses.{has}
 use Rattle.cpa_sat_trail.specs.declared.assertion.Jump.{Jump}
 use Rattle.cpa_sat_trail.specs.declared.trail.Trail.{Trail}
-use Rattle.cpa_sat_trail.specs.declared.trail.TheConstants.{NONE}
+use Rattle.cpa_sat_arena.specs.declared.literal.TheConstants.{NO_CLAUSE}
 use Rattle.cpa_sat_trail.specs.Trails.{IsTrail, IsJustified, height, lit_at, reason_at, place_of}
 use Rattle.cpa_sat_trail.specs.Trails.{AreClauses}
 
 abbrev pub weight : ℕ → List ℕ → ℕ
 weight zero rs = 0
 weight (suc n) [] = 0
-weight (suc n) (r ∷ rs) = (if r == NONE then 1 else 2) * 3 ^ n + weight n rs
+weight (suc n) (r ∷ rs) = (if r == NO_CLAUSE then 1 else 2) * 3 ^ n + weight n rs
 
 abbrev pub progress : Trail → ℕ
 progress t = weight t.vars t.reasons.items
@@ -29,7 +29,7 @@ pub record IsSound (clauses : List (List ℕ)) (t : Trail) : Type 0 where
 pub record Asserts (clause : List ℕ) (t : Trail) (jump : Jump) : Type 0 where
   pub inside : jump.at < height t
   pub above : jump.cut ≤ jump.at
-  pub decision : reason_at t jump.cut ≡ NONE
+  pub decision : reason_at t jump.cut ≡ NO_CLAUSE
   pub in_it : has clause (opposite (lit_at t jump.at)) ≡ true
   pub others : (l : ℕ) → has clause l ≡ true → l ≢ opposite (lit_at t jump.at)
       → place_of t (opposite l) < jump.cut

@@ -9,21 +9,21 @@ use Rattle.cpa_sat_trail.specs.declared.propagation.Seen.{Seen}
 use Rattle.cpa_sat_trail.specs.declared.propagation.Seen.TheVariants.{Satisfied, Free, Forced}
 use Rattle.cpa_sat_trail.specs.declared.propagation.Seen.TheVariants.{Conflict}
 use Rattle.cpa_sat_trail.specs.declared.trail.Trail.{Trail}
-use Rattle.cpa_sat_trail.specs.declared.trail.TheConstants.{NONE}
+use Rattle.cpa_sat_trail.specs.declared.trail.TheConstants.{NO_PLACE}
 use Rattle.cpa_sat_trail.specs.Trails.{IsFalse, place_of}
 
 -- each literal of the clause but one is false
 abbrev pub IsFalseBut : ℕ → List ℕ → Trail → Type 0
 IsFalseBut literal clause t = (l : ℕ) → has clause l ≡ true → l ≢ literal
-    → place_of t (opposite l) ≢ NONE
+    → place_of t (opposite l) ≢ NO_PLACE
 
 -- the clause forces the literal, which has no value
 pub record IsForced (clause : List ℕ) (t : Trail) (literal : ℕ) : Type 0 where
   pub in_it : has clause literal ≡ true
   pub others : IsFalseBut literal clause t
   pub range : literal < 2 * t.vars
-  pub not_true : place_of t literal ≡ NONE
-  pub not_false : place_of t (opposite literal) ≡ NONE
+  pub not_true : place_of t literal ≡ NO_PLACE
+  pub not_false : place_of t (opposite literal) ≡ NO_PLACE
 
 abbrev pub IsSeen : List ℕ → Trail → Seen → Type 0
 IsSeen clause t Satisfied = Unit {0}

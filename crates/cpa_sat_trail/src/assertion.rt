@@ -3,13 +3,14 @@
 
 ghost use Rattle.std.specs.Prelude.{◌≡◌, ◌<◌, ◌*◌, [], length, slice_index_or, OnOk};
 ghost use Rattle.cpa_cnf.specs.Literals.{opposite};
-ghost use Rattle.cpa_sat_trail.specs.declared.trail.TheConstants.{NONE};
+ghost use Rattle.cpa_sat_arena.specs.declared.literal.TheConstants.{NO_CLAUSE};
+ghost use Rattle.cpa_sat_trail.specs.declared.trail.TheConstants.{NO_PLACE};
 ghost use Rattle.cpa_sat_trail.specs.Trails.{place_of};
 ghost use Rattle.cpa_sat_trail.specs.Propagations.{IsForced};
 ghost use Rattle.cpa_sat_trail.specs.Progress.{Asserts, IsSound, progress};
 
-use crate::trail::{NONE, Trail};
-use cpa_sat_arena::Arena;
+use crate::trail::Trail;
+use cpa_sat_arena::{Arena, ClauseRef, PackedLit};
 use std::alloc::AllocError;
 
 /// Where a learned clause forces a literal: the opposite of the one that is true at the place `at`,
@@ -21,17 +22,17 @@ pub struct Jump {
 }
 
 /// Decides that the literal is true.
-pub fn decide(trail: &mut Trail, arena: &Arena, literal: u32) -> Result<(), AllocError>
+pub fn decide(trail: &mut Trail, arena: &Arena, literal: PackedLit) -> Result<(), AllocError>
     requires sound { IsSound arena.now trail.old }
     requires range { literal < 2 * trail.old.vars }
-    requires not_true { place_of trail.old literal ≡ NONE }
-    requires not_false { place_of trail.old (opposite literal) ≡ NONE }
+    requires not_true { place_of trail.old literal ≡ NO_PLACE }
+    requires not_false { place_of trail.old (opposite literal) ≡ NO_PLACE }
     ensures sound { OnOk result (IsSound arena.now trail.new) }
     ensures vars { OnOk result (trail.new.vars ≡ trail.old.vars) }
     ensures rises { OnOk result (progress trail.old < progress trail.new) }
 {
     let _clauses = arena.len();
-    trail.push(literal, NONE)?;
+    trail.push(literal, ClauseRef::none())?;
     Ok(())
 }
 
@@ -39,8 +40,8 @@ pub fn decide(trail: &mut Trail, arena: &Arena, literal: u32) -> Result<(), Allo
 pub(crate) fn force(
     trail: &mut Trail,
     arena: &Arena,
-    literal: u32,
-    number: u32,
+    literal: PackedLit,
+    number: ClauseRef,
 ) -> Result<(), AllocError>
     requires sound { IsSound arena.now trail.old }
     requires inside { number < length arena.now }
@@ -59,11 +60,11 @@ pub fn jump_back(
     trail: &mut Trail,
     arena: &Arena,
     jump: Jump,
-    number: u32,
+    number: ClauseRef,
 ) -> Result<(), AllocError>
     requires sound { IsSound arena.now trail.old }
     requires inside { number < length arena.now }
-    requires number { number < NONE }
+    requires number { number < NO_CLAUSE }
     requires asserts { Asserts (slice_index_or arena.now number []) trail.old jump }
     ensures sound { OnOk result (IsSound arena.now trail.new) }
     ensures vars { OnOk result (trail.new.vars ≡ trail.old.vars) }

@@ -5,19 +5,19 @@ ghost use Rattle.std.specs.Prelude.{◌↔◌, ◌<◌, ◌*◌, ◌/◌, true, 
 ghost use Rattle.std.specs.Prelude.{IsTrue, IfOk, IfSome, IfNone};
 ghost use Rattle.std.specs.Bool.{OnFalse};
 ghost use Rattle.cpa_cnf.specs.Lines.{AreBelow};
-ghost use Rattle.cpa_sat_trail.specs.declared.trail.TheConstants.{NONE};
+ghost use Rattle.cpa_sat_arena.specs.declared.literal.TheConstants.{NO_CLAUSE};
 ghost use Rattle.cpa_sat_trail.specs.Trails.{IsFalse, IsTrail};
 ghost use Rattle.cpa_sat_trail.specs.Progress.{IsSound};
 ghost use Rattle.cpa_sat_trail.specs.Findings.{AreSatisfied, AreValues, HasNoTrue, IsOpen};
 ghost use Rattle.cpa_sat_trail.specs.Findings.{IsSatisfiedIn, IsUnsatisfied};
 
 use crate::propagation::{is_false, is_true};
-use crate::trail::{NONE, Trail};
-use cpa_sat_arena::Arena;
+use crate::trail::Trail;
+use cpa_sat_arena::{Arena, ClauseRef, PackedLit, Var};
 use std::alloc::{AllocError, Global};
 
 /// Whether a literal of the clause is true.
-fn is_satisfied(trail: &Trail, clause: &[u32]) -> bool
+fn is_satisfied(trail: &Trail, clause: &[PackedLit]) -> bool
     requires trail { IsTrail trail.now }
     requires below { AreBelow trail.now.vars clause.now }
     ensures yes { IsTrue result → IsSatisfiedIn trail.now clause.now }
@@ -32,22 +32,23 @@ fn is_satisfied(trail: &Trail, clause: &[u32]) -> bool
 }
 
 /// A clause of which no literal is true.
-pub fn unsatisfied(arena: &Arena, trail: &Trail) -> Option<u32>
+pub fn unsatisfied(arena: &Arena, trail: &Trail) -> Option<ClauseRef>
     requires sound { IsSound arena.now trail.now }
-    requires few { length arena.now < NONE }
+    requires few { length arena.now < NO_CLAUSE }
     ensures none { IfNone result (AreSatisfied arena.now trail.now) }
     ensures some { IfSome result (IsUnsatisfied arena.now trail.now) }
 {
     for number in 0..arena.len() {
-        if !is_satisfied(trail, arena.clause(number as u32)) {
-            return Some(number as u32);
+        let number = ClauseRef::new(number);
+        if !is_satisfied(trail, arena.clause(number)) {
+            return Some(number);
         }
     }
     None
 }
 
 /// A literal without a value, in a clause of which no literal is true.
-pub fn open_literal(trail: &Trail, clause: &[u32]) -> Option<u32>
+pub fn open_literal(trail: &Trail, clause: &[PackedLit]) -> Option<PackedLit>
     requires trail { IsTrail trail.now }
     requires below { AreBelow trail.now.vars clause.now }
     requires no_true { HasNoTrue clause.now trail.now }
@@ -63,11 +64,11 @@ pub fn open_literal(trail: &Trail, clause: &[u32]) -> Option<u32>
 }
 
 /// Whether the literal is in range and has no value.
-pub fn is_open(trail: &Trail, literal: u32) -> bool
+pub fn is_open(trail: &Trail, literal: PackedLit) -> bool
     requires { IsTrail trail.now }
     ensures { IsTrue result ↔ IsOpen trail.now literal }
 {
-    literal / 2 < trail.vars && !is_true(trail, literal) && !is_false(trail, literal)
+    literal.var().number() < trail.vars && !is_true(trail, literal) && !is_false(trail, literal)
 }
 
 /// The values of the variables: true where the positive literal is.
@@ -77,7 +78,7 @@ pub fn values(alloc: Global, trail: &Trail) -> Result<Vec<bool>, AllocError>
 {
     let mut values = Vec::with_capacity(alloc, trail.vars as usize)?;
     for var in 0..trail.vars {
-        values.push(is_true(trail, var * 2))?;
+        values.push(is_true(trail, Var::new(var).positive()))?;
     }
     Ok(values)
 }

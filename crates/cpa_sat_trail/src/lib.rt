@@ -13,5 +13,5 @@ pub use assertion::{Jump, decide, jump_back};
 pub use finding::{is_open, open_literal, unsatisfied, values};
 pub use order::{Order, Restarts};
 pub use propagation::{force_units, propagate};
-pub use trail::{NONE, Trail, VARS_LIMIT, flip};
+pub use trail::{Level, NO_PLACE, Trail, VARS_LIMIT};
 pub use watches::{Watches, watch_all, watch_clause};

@@ -1,7 +1,8 @@
 //! Which literal to decide next (VSIDS: Moskewicz et al. 2001; as in MiniSat), and when to restart
 //! (Luby, Sinclair and Zuckerman 1993). Nothing rests on either but speed.
 
-use crate::trail::{NONE, VARS_LIMIT};
+use crate::trail::{NO_PLACE, VARS_LIMIT};
+use cpa_sat_arena::{PackedLit, Var};
 use std::alloc::{AllocError, Global};
 
 /// The most steps from the root of a heap to a leaf.
@@ -19,8 +20,8 @@ const SCALE: f64 = 1e-100;
 /// The variables in a heap by activity, and the sign that each had last.
 #[derive(Drop)]
 pub struct Order {
-    heap: Vec<u32>,
-    /// The place of each variable in the heap, NONE where it is not there.
+    heap: Vec<Var>,
+    /// The place of each variable in the heap, NO_PLACE where it is not there.
     slots: Vec<u32>,
     activities: Vec<f64>,
     negative: Vec<bool>,
@@ -32,9 +33,9 @@ impl Order {
     pub fn new(alloc: Global, vars: u32) -> Result<Order, AllocError> {
         let mut heap = Vec::with_capacity(alloc, vars as usize)?;
         let mut slots = Vec::with_capacity(alloc, vars as usize)?;
-        for var in 0..vars {
-            heap.push(var)?;
-            slots.push(var)?;
+        for number in 0..vars {
+            heap.push(Var::new(number))?;
+            slots.push(number)?;
         }
         Ok(Order {
             heap,
@@ -46,39 +47,39 @@ impl Order {
     }
 
     /// The activity of a variable, 0 where there is no such variable.
-    fn activity(&self, var: u32) -> f64 {
+    fn activity(&self, var: Var) -> f64 {
         self.activities
             .as_slice()
-            .get(var as usize)
+            .get(var.index())
             .copied()
             .unwrap_or(0.0)
     }
 
-    /// The variable at the place in the heap, NONE where there is no such place.
-    fn at(&self, slot: u32) -> u32 {
+    /// The variable at the place in the heap, none where there is no such place.
+    fn at(&self, slot: u32) -> Var {
         self.heap
             .as_slice()
             .get(slot as usize)
             .copied()
-            .unwrap_or(NONE)
+            .unwrap_or(Var::none())
     }
 
-    /// The place of a variable in the heap, NONE where it is not there.
-    fn slot(&self, var: u32) -> u32 {
+    /// The place of a variable in the heap, NO_PLACE where it is not there.
+    fn slot(&self, var: Var) -> u32 {
         self.slots
             .as_slice()
-            .get(var as usize)
+            .get(var.index())
             .copied()
-            .unwrap_or(NONE)
+            .unwrap_or(NO_PLACE)
     }
 
     /// Puts the variable at the place in the heap.
-    fn put(&mut self, slot: u32, var: u32) {
+    fn put(&mut self, slot: u32, var: Var) {
         if (slot as usize) < self.heap.len() {
             self.heap[slot as usize] = var;
         }
-        if (var as usize) < self.slots.len() {
-            self.slots[var as usize] = slot;
+        if var.index() < self.slots.len() {
+            self.slots[var.index()] = slot;
         }
     }
 
@@ -101,15 +102,15 @@ impl Order {
         self.put(here, var);
     }
 
-    /// The child of the place with the greater activity, NONE where it has no child.
+    /// The child of the place with the greater activity, NO_PLACE where it has no child.
     fn child(&self, slot: u32) -> u32 {
         let left = u64::from(slot) * 2 + 1;
-        if left >= self.heap.len() as u64 || left + 1 >= u64::from(NONE) {
-            return NONE;
+        if left >= self.heap.len() as u64 || left + 1 >= u64::from(NO_PLACE) {
+            return NO_PLACE;
         }
         let left = left as u32;
         let right = left + 1;
-        let is_right = self.at(right) != NONE
+        let is_right = (right as usize) < self.heap.len()
             && self.activity(self.at(right)) > self.activity(self.at(left));
         if is_right { right } else { left }
     }
@@ -120,7 +121,7 @@ impl Order {
         let mut here = slot;
         for _ in 0..DEPTH {
             let child = self.child(here);
-            if child == NONE {
+            if child == NO_PLACE {
                 break;
             }
             let below = self.at(child);
@@ -135,11 +136,11 @@ impl Order {
 
     /// Takes out the variable of the greatest activity, and gives its literal with the sign that it
     /// had last.
-    pub fn pop(&mut self) -> Option<u32> {
+    pub fn pop(&mut self) -> Option<PackedLit> {
         let var = self.at(0);
         let last = self.heap.pop()?;
-        if (var as usize) < self.slots.len() {
-            self.slots[var as usize] = NONE;
+        if var.index() < self.slots.len() {
+            self.slots[var.index()] = NO_PLACE;
         }
         if !self.heap.is_empty() {
             self.put(0, last);
@@ -148,23 +149,27 @@ impl Order {
         let is_negative = self
             .negative
             .as_slice()
-            .get(var as usize)
+            .get(var.index())
             .copied()
             .unwrap_or(true);
-        if var < VARS_LIMIT {
-            Some(var * 2 + u32::from(is_negative))
-        } else {
-            None
+        if var.number() >= VARS_LIMIT {
+            return None;
         }
+        let literal = var.positive();
+        Some(if is_negative {
+            literal.opposite()
+        } else {
+            literal
+        })
     }
 
     /// Keeps the sign of a literal that was true, and puts its variable back.
-    pub fn release(&mut self, literal: u32) -> Result<(), AllocError> {
-        let var = literal / 2;
-        if (var as usize) < self.negative.len() {
-            self.negative[var as usize] = literal % 2 == 1;
+    pub fn release(&mut self, literal: PackedLit) -> Result<(), AllocError> {
+        let var = literal.var();
+        if var.index() < self.negative.len() {
+            self.negative[var.index()] = literal.is_negative();
         }
-        if self.slot(var) == NONE && self.heap.len() < VARS_LIMIT as usize {
+        if self.slot(var) == NO_PLACE && self.heap.len() < VARS_LIMIT as usize {
             let slot = self.heap.len() as u32;
             self.heap.push(var)?;
             self.put(slot, var);
@@ -174,15 +179,15 @@ impl Order {
     }
 
     /// Raises a variable's activity.
-    pub fn bump(&mut self, var: u32) {
-        if (var as usize) < self.activities.len() {
-            self.activities[var as usize] = self.activity(var) + self.step;
+    pub fn bump(&mut self, var: Var) {
+        if var.index() < self.activities.len() {
+            self.activities[var.index()] = self.activity(var) + self.step;
             if self.activity(var) > HIGH {
                 self.scale();
             }
         }
         let slot = self.slot(var);
-        if slot != NONE {
+        if slot != NO_PLACE {
             self.rise(slot);
         }
     }

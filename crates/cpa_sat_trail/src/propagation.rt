@@ -7,16 +7,17 @@ ghost use Rattle.std.specs.Bool.{OnFalse};
 ghost use Rattle.cpa_cnf.specs.Literals.{opposite};
 ghost use Rattle.cpa_cnf.specs.Clauses.{has};
 ghost use Rattle.cpa_cnf.specs.Lines.{AreBelow};
-ghost use Rattle.cpa_sat_trail.specs.declared.trail.TheConstants.{NONE};
+ghost use Rattle.cpa_sat_arena.specs.declared.literal.TheConstants.{NO_CLAUSE};
+ghost use Rattle.cpa_sat_trail.specs.declared.trail.TheConstants.{NO_PLACE};
 ghost use Rattle.cpa_sat_trail.specs.Trails.{IsTrail, place_of};
 ghost use Rattle.cpa_sat_trail.specs.Propagations.{IsFalseBut, IsSeen, IsVisited, IsAwake};
 ghost use Rattle.cpa_sat_trail.specs.Propagations.{IsPropagated};
 ghost use Rattle.cpa_sat_trail.specs.Progress.{IsRisen, IsSound};
 
 use crate::assertion::force;
-use crate::trail::{NONE, Trail, flip};
+use crate::trail::{NO_PLACE, Trail};
 use crate::watches::{Watch, Watches, close_up, keep, watch_at};
-use cpa_sat_arena::Arena;
+use cpa_sat_arena::{Arena, ClauseRef, PackedLit};
 use std::alloc::AllocError;
 
 /// What a look at a clause shows.
@@ -25,42 +26,42 @@ pub(crate) enum Seen {
     /// A literal is true.
     Satisfied,
     /// A literal other than the watched ones is not false.
-    Free(u32),
+    Free(PackedLit),
     /// All literals but this one are false, and it has no value.
-    Forced(u32),
+    Forced(PackedLit),
     /// All literals are false.
     Conflict,
 }
 
 /// Whether the literal is false.
-pub(crate) fn is_false(trail: &Trail, literal: u32) -> bool
+pub(crate) fn is_false(trail: &Trail, literal: PackedLit) -> bool
     requires trail { IsTrail trail.now }
     requires range { literal < 2 * trail.now.vars }
-    ensures { IsTrue result ↔ (place_of trail.now (opposite literal) ≢ NONE) }
+    ensures { IsTrue result ↔ (place_of trail.now (opposite literal) ≢ NO_PLACE) }
 {
-    trail.places[flip(literal) as usize] != NONE
+    trail.places[literal.opposite().index()] != NO_PLACE
 }
 
 /// Whether the literal is true.
-pub(crate) fn is_true(trail: &Trail, literal: u32) -> bool
+pub(crate) fn is_true(trail: &Trail, literal: PackedLit) -> bool
     requires trail { IsTrail trail.now }
     requires range { literal < 2 * trail.now.vars }
-    ensures { IsTrue result ↔ (place_of trail.now literal ≢ NONE) }
+    ensures { IsTrue result ↔ (place_of trail.now literal ≢ NO_PLACE) }
 {
-    trail.places[literal as usize] != NONE
+    trail.places[literal.index()] != NO_PLACE
 }
 
 /// Whether the literal is another than `other` and not false.
-fn is_free(trail: &Trail, literal: u32, other: u32) -> bool
+fn is_free(trail: &Trail, literal: PackedLit, other: PackedLit) -> bool
     requires trail { IsTrail trail.now }
     requires range { literal < 2 * trail.now.vars }
-    ensures { OnFalse result (literal ≢ other → place_of trail.now (opposite literal) ≢ NONE) }
+    ensures { OnFalse result (literal ≢ other → place_of trail.now (opposite literal) ≢ NO_PLACE) }
 {
     literal != other && !is_false(trail, literal)
 }
 
 /// A literal of the clause that is not false, other than `other`.
-fn free_literal(trail: &Trail, clause: &[u32], other: u32) -> Option<u32>
+fn free_literal(trail: &Trail, clause: &[PackedLit], other: PackedLit) -> Option<PackedLit>
     requires trail { IsTrail trail.now }
     requires below { AreBelow trail.now.vars clause.now }
     ensures { IfNone result (IsFalseBut other clause.now trail.now) }
@@ -74,14 +75,14 @@ fn free_literal(trail: &Trail, clause: &[u32], other: u32) -> Option<u32>
 }
 
 /// Whether the literal stands in the clause.
-fn contains(clause: &[u32], literal: u32) -> bool
+fn contains(clause: &[PackedLit], literal: PackedLit) -> bool
     ensures { result ≡ has clause.now literal }
 {
     clause.contains(&literal)
 }
 
 /// Looks at a clause of which `other` is watched.
-fn look(trail: &Trail, clause: &[u32], other: u32) -> Seen
+fn look(trail: &Trail, clause: &[PackedLit], other: PackedLit) -> Seen
     requires trail { IsTrail trail.now }
     requires below { AreBelow trail.now.vars clause.now }
     ensures { IsSeen clause.now trail.now result }
@@ -102,18 +103,18 @@ fn look(trail: &Trail, clause: &[u32], other: u32) -> Seen
 }
 
 /// Whether the literal is true, and in range.
-fn holds(trail: &Trail, literal: u32) -> bool
+fn holds(trail: &Trail, literal: PackedLit) -> bool
     requires { IsTrail trail.now }
 {
-    literal / 2 < trail.vars && is_true(trail, literal)
+    literal.var().number() < trail.vars && is_true(trail, literal)
 }
 
 /// Looks at the clause of a watch of a literal that is false.
-fn visit(arena: &Arena, trail: &Trail, watches: &Watches, literal: u32, watch: Watch) -> Seen
+fn visit(arena: &Arena, trail: &Trail, watches: &Watches, literal: PackedLit, watch: &Watch) -> Seen
     requires { IsSound arena.now trail.now }
-    ensures { IsVisited arena.now trail.now watch.clause result }
+    ensures { IsVisited arena.now trail.now watch.now.clause result }
 {
-    if holds(trail, watch.blocker) || watch.clause as usize >= arena.len() {
+    if holds(trail, watch.blocker) || watch.clause.index() >= arena.len() {
         return Seen::Satisfied;
     }
     let other = watches.other(watch.clause, literal);
@@ -138,13 +139,13 @@ fn wake(
     arena: &Arena,
     trail: &mut Trail,
     watches: &mut Watches,
-    literal: u32,
-    watch: Watch,
+    literal: PackedLit,
+    watch: &Watch,
 ) -> Result<After, AllocError>
     requires { IsSound arena.now trail.old }
     ensures sound { OnOk result (IsSound arena.now trail.new) }
     ensures rises { OnOk result (IsRisen trail.old trail.new) }
-    ensures conflict { IfOk result (IsAwake arena.now trail.new watch.clause) }
+    ensures conflict { IfOk result (IsAwake arena.now trail.new watch.now.clause) }
 {
     match visit(arena, trail, watches, literal, watch) {
         Seen::Satisfied => Ok(After::Stays),
@@ -166,9 +167,9 @@ fn wake_all(
     arena: &Arena,
     trail: &mut Trail,
     watches: &mut Watches,
-    literal: u32,
+    literal: PackedLit,
     list: &mut Vec<Watch>,
-) -> Result<Option<u32>, AllocError>
+) -> Result<Option<ClauseRef>, AllocError>
     requires { IsSound arena.now trail.old }
     ensures sound { OnOk result (IsSound arena.now trail.new) }
     ensures rises { OnOk result (IsRisen trail.old trail.new) }
@@ -177,8 +178,8 @@ fn wake_all(
     let mut kept = 0;
     for i in 0..list.len() {
         let watch = watch_at(list, i);
-        match wake(arena, trail, watches, literal, watch)? {
-            After::Stays => kept = keep(list, kept, watch),
+        match wake(arena, trail, watches, literal, &watch)? {
+            After::Stays => kept = keep(list, kept, &watch),
             After::Moved => {}
             After::Stopped => {
                 close_up(list, kept, i);
@@ -196,8 +197,8 @@ fn propagate_literal(
     arena: &Arena,
     trail: &mut Trail,
     watches: &mut Watches,
-    literal: u32,
-) -> Result<Option<u32>, AllocError>
+    literal: PackedLit,
+) -> Result<Option<ClauseRef>, AllocError>
     requires { IsSound arena.now trail.old }
     ensures sound { OnOk result (IsSound arena.now trail.new) }
     ensures rises { OnOk result (IsRisen trail.old trail.new) }
@@ -216,7 +217,7 @@ pub fn propagate(
     trail: &mut Trail,
     watches: &mut Watches,
     next: &mut usize,
-) -> Result<Option<u32>, AllocError>
+) -> Result<Option<ClauseRef>, AllocError>
     requires { IsSound arena.now trail.old }
     ensures sound { OnOk result (IsSound arena.now trail.new) }
     ensures rises { OnOk result (IsRisen trail.old trail.new) }
@@ -233,7 +234,7 @@ pub fn propagate(
 }
 
 /// Forces the literal of a clause that has no other; true where the clause is false.
-fn force_unit(arena: &Arena, trail: &mut Trail, number: u32) -> Result<After, AllocError>
+fn force_unit(arena: &Arena, trail: &mut Trail, number: ClauseRef) -> Result<After, AllocError>
     requires sound { IsSound arena.now trail.old }
     requires inside { number < length arena.now }
     ensures sound { OnOk result (IsSound arena.now trail.new) }
@@ -255,22 +256,23 @@ fn force_unit(arena: &Arena, trail: &mut Trail, number: u32) -> Result<After, Al
     }
 }
 
-/// The first literal of the clause, NONE where it is empty.
-fn first_of(clause: &[u32]) -> u32 {
-    clause.first().copied().unwrap_or(NONE)
+/// The first literal of the clause, none where it is empty.
+fn first_of(clause: &[PackedLit]) -> PackedLit {
+    clause.first().copied().unwrap_or(PackedLit::none())
 }
 
 /// Forces the literals of all unit clauses; the number of a clause that is false, if one is.
-pub fn force_units(arena: &Arena, trail: &mut Trail) -> Result<Option<u32>, AllocError>
+pub fn force_units(arena: &Arena, trail: &mut Trail) -> Result<Option<ClauseRef>, AllocError>
     requires sound { IsSound arena.now trail.old }
-    requires few { length arena.now < NONE }
+    requires few { length arena.now < NO_CLAUSE }
     ensures sound { OnOk result (IsSound arena.now trail.new) }
     ensures rises { OnOk result (IsRisen trail.old trail.new) }
     ensures conflict { IfOk result (IsPropagated arena.now trail.new) }
 {
     for number in 0..arena.len() {
-        match force_unit(arena, trail, number as u32)? {
-            After::Stopped => return Ok(Some(number as u32)),
+        let number = ClauseRef::new(number);
+        match force_unit(arena, trail, number)? {
+            After::Stopped => return Ok(Some(number)),
             After::Stays => {}
             After::Moved => {}
         }

@@ -4,13 +4,15 @@
 ghost use Rattle.std.specs.Prelude.{◌≡◌, ◌<◌, ◌≤◌, ◌+◌, ◌-◌, ◌*◌, ◌++◌, ◌∷◌, ◌^◌, []};
 ghost use Rattle.std.specs.Prelude.{take, slice_set, OnOk, IfOk};
 ghost use Rattle.cpa_cnf.specs.Literals.{opposite};
+ghost use Rattle.cpa_sat_trail.specs.declared.trail.TheConstants.{NO_PLACE};
 ghost use Rattle.cpa_sat_trail.specs.Trails.{IsTrail, lit_at, reason_at};
 ghost use Rattle.cpa_sat_trail.specs.Trails.{place_of, height};
 
+use cpa_sat_arena::{ClauseRef, PackedLit, literal_count};
 use std::alloc::{AllocError, Global};
 
-/// The number that stands for no place and no clause.
-pub const NONE: u32 = u32::MAX;
+/// The number that stands for no place.
+pub const NO_PLACE: u32 = u32::MAX;
 
 /// A trail has fewer variables than these, so that each literal is a u32.
 pub const VARS_LIMIT: u32 = 1 << 31;
@@ -19,21 +21,43 @@ pub const VARS_LIMIT: u32 = 1 << 31;
 #[derive(Drop)]
 pub struct Trail {
     pub vars: u32,
-    pub lits: Vec<u32>,
-    /// The number of the clause that forced each of them; NONE at a decision.
-    pub reasons: Vec<u32>,
-    /// The place of each literal on the trail; NONE where it is not true.
+    pub lits: Vec<PackedLit>,
+    /// The clause that forced each of them; none at a decision.
+    pub reasons: Vec<ClauseRef>,
+    /// The place of each literal on the trail; NO_PLACE where it is not true.
     pub places: Vec<u32>,
     /// The number of decisions up to each literal on the trail: for speed alone.
-    levels: Vec<u32>,
+    levels: Vec<Level>,
 }
 
-/// The literal with the other sign.
-pub fn flip(literal: u32) -> u32
-    requires { literal < 2 ^ 32 }
-    ensures { result ≡ opposite literal }
-{
-    literal ^ 1
+/// A number of decisions, up to a literal of the trail: for speed alone.
+#[derive(Clone, Copy)]
+pub struct Level {
+    decisions: u32,
+}
+
+impl Level {
+    /// Before the first decision.
+    pub fn ground() -> Level {
+        Level { decisions: 0 }
+    }
+
+    /// One decision more.
+    fn next(self) -> Level {
+        Level {
+            decisions: self.decisions.wrapping_add(1),
+        }
+    }
+
+    /// Whether it is before the first decision.
+    pub fn is_ground(self) -> bool {
+        self.decisions == 0
+    }
+
+    /// Its place in a table by level.
+    pub fn index(self) -> usize {
+        self.decisions as usize
+    }
 }
 
 impl Trail {
@@ -48,17 +72,17 @@ impl Trail {
             vars,
             lits: Vec::with_capacity(alloc, vars as usize)?,
             reasons: Vec::with_capacity(alloc, vars as usize)?,
-            places: vec![in alloc; NONE; vars as usize * 2]?,
+            places: vec![in alloc; NO_PLACE; literal_count(vars)]?,
             levels: Vec::with_capacity(alloc, vars as usize)?,
         })
     }
 
     /// Adds a literal that has no value yet.
-    pub fn push(&mut self, literal: u32, reason: u32) -> Result<(), AllocError>
+    pub fn push(&mut self, literal: PackedLit, reason: ClauseRef) -> Result<(), AllocError>
         requires trail { IsTrail self.old }
         requires in_range { literal < 2 * self.old.vars }
-        requires not_true { place_of self.old literal ≡ NONE }
-        requires not_false { place_of self.old (opposite literal) ≡ NONE }
+        requires not_true { place_of self.old literal ≡ NO_PLACE }
+        requires not_false { place_of self.old (opposite literal) ≡ NO_PLACE }
         ensures trail { OnOk result (IsTrail self.new) }
         ensures vars { OnOk result (self.new.vars ≡ self.old.vars) }
         ensures lits { OnOk result (self.new.lits.items ≡ self.old.lits.items ++ literal ∷ []) }
@@ -72,14 +96,23 @@ impl Trail {
         self.reasons.push(reason)?;
         let level = self.next_level(reason);
         self.levels.push(level)?;
-        self.places[literal as usize] = place;
+        self.places[literal.index()] = place;
         Ok(())
     }
 
     /// The number of decisions up to the next literal, which is forced by a clause or decided.
-    fn next_level(&self, reason: u32) -> u32 {
-        let level = self.levels.as_slice().last().copied().unwrap_or(0);
-        level.wrapping_add(u32::from(reason == NONE))
+    fn next_level(&self, reason: ClauseRef) -> Level {
+        let level = self
+            .levels
+            .as_slice()
+            .last()
+            .copied()
+            .unwrap_or(Level::ground());
+        if reason.is_none() {
+            level.next()
+        } else {
+            level
+        }
     }
 
     /// Takes the last literal back.
@@ -97,7 +130,7 @@ impl Trail {
         self.lits.truncate(last);
         self.reasons.truncate(last);
         self.levels.truncate(last);
-        self.places[literal as usize] = NONE;
+        self.places[literal.index()] = NO_PLACE;
     }
 
     /// Takes literals back until so many are left.
@@ -115,43 +148,44 @@ impl Trail {
     }
 
     /// The number of decisions up to the place: a hint, of which nothing is claimed.
-    pub fn level(&self, place: u32) -> u32 {
+    pub fn level(&self, place: u32) -> Level {
         self.levels
             .as_slice()
             .get(place as usize)
             .copied()
-            .unwrap_or(0)
+            .unwrap_or(Level::ground())
     }
 
-    /// The place at which the literal became false, NONE where it is not: a hint for any number.
-    pub fn when_false(&self, literal: u32) -> u32 {
+    /// The place at which the literal became false, NO_PLACE where it is not: a hint for any
+    /// literal.
+    pub fn when_false(&self, literal: PackedLit) -> u32 {
         self.places
             .as_slice()
-            .get((literal ^ 1) as usize)
+            .get(literal.opposite().index())
             .copied()
-            .unwrap_or(NONE)
+            .unwrap_or(NO_PLACE)
     }
 
-    /// The clause that forced the literal at the place, NONE at a decision: a hint for any place.
-    pub fn why(&self, place: u32) -> u32 {
+    /// The clause that forced the literal at the place, none at a decision: a hint for any place.
+    pub fn why(&self, place: u32) -> ClauseRef {
         self.reasons
             .as_slice()
             .get(place as usize)
             .copied()
-            .unwrap_or(NONE)
+            .unwrap_or(ClauseRef::none())
     }
 
     /// The literal that became false at the place.
-    pub fn false_at(&self, at: usize) -> u32
+    pub fn false_at(&self, at: usize) -> PackedLit
         requires trail { IsTrail self.now }
         requires inside { at < height self.now }
         ensures { result ≡ opposite (lit_at self.now at) }
     {
-        flip(self.lits[at])
+        self.lits[at].opposite()
     }
 
-    /// The number of the clause that forced the literal at the place, NONE at a decision.
-    pub fn reason(&self, at: usize) -> u32
+    /// The clause that forced the literal at the place, none at a decision.
+    pub fn reason(&self, at: usize) -> ClauseRef
         requires trail { IsTrail self.now }
         requires inside { at < height self.now }
         ensures { result ≡ reason_at self.now at }

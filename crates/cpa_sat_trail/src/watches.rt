@@ -2,19 +2,29 @@
 //! 2003). For speed alone: what goes on the trail is justified by a look at the clause.
 
 ghost use Rattle.std.specs.Prelude.{◌<◌, length};
-ghost use Rattle.cpa_sat_trail.specs.declared.trail.TheConstants.{NONE};
+ghost use Rattle.cpa_sat_arena.specs.declared.literal.TheConstants.{NO_CLAUSE};
 
-use crate::trail::{NONE, Trail};
-use cpa_sat_arena::Arena;
+use crate::trail::Trail;
+use cpa_sat_arena::{Arena, ClauseRef, LitPair, PackedLit, literal_count};
 use std::alloc::{AllocError, Global};
 use std::mem;
 
 /// A watch of a clause.
 #[derive(Clone, Copy)]
 pub(crate) struct Watch {
-    pub(crate) clause: u32,
+    pub(crate) clause: ClauseRef,
     /// A literal of the clause: while it is true, the clause need not be looked at.
-    pub(crate) blocker: u32,
+    pub(crate) blocker: PackedLit,
+}
+
+impl Watch {
+    /// The same watch.
+    fn again(&self) -> Watch {
+        Watch {
+            clause: self.clause,
+            blocker: self.blocker,
+        }
+    }
 }
 
 /// The watches of all literals.
@@ -23,15 +33,15 @@ pub struct Watches {
     alloc: Global,
     /// The watches of each literal.
     lists: Vec<Vec<Watch>>,
-    /// The two watched literals of each clause, as bits that differ.
-    pairs: Vec<u32>,
+    /// The two watched literals of each clause.
+    pairs: Vec<LitPair>,
 }
 
 impl Watches {
     /// No clause is watched.
     pub fn new(alloc: Global, vars: u32) -> Result<Watches, AllocError> {
-        let mut lists = Vec::with_capacity(alloc, vars as usize * 2)?;
-        for _ in 0..vars as usize * 2 {
+        let mut lists = Vec::with_capacity(alloc, literal_count(vars))?;
+        for _ in 0..literal_count(vars) {
             lists.push(Vec::new(alloc))?;
         }
         Ok(Watches {
@@ -50,13 +60,13 @@ impl Watches {
 
     /// Makes room for the next clause.
     pub fn add(&mut self) -> Result<(), AllocError> {
-        self.pairs.push(0)?;
+        self.pairs.push(LitPair::none())?;
         Ok(())
     }
 
     /// Takes the watches of a literal out, to be put back.
-    pub(crate) fn take(&mut self, literal: u32) -> Vec<Watch> {
-        let number = literal as usize;
+    pub(crate) fn take(&mut self, literal: PackedLit) -> Vec<Watch> {
+        let number = literal.index();
         if number < self.lists.len() {
             mem::replace(&mut self.lists[number], Vec::new(self.alloc))
         } else {
@@ -65,16 +75,16 @@ impl Watches {
     }
 
     /// Puts the watches of a literal back.
-    pub(crate) fn put(&mut self, literal: u32, list: Vec<Watch>) {
-        let number = literal as usize;
+    pub(crate) fn put(&mut self, literal: PackedLit, list: Vec<Watch>) {
+        let number = literal.index();
         if number < self.lists.len() {
             self.lists[number] = list;
         }
     }
 
     /// Adds a watch to a literal.
-    fn push(&mut self, literal: u32, watch: Watch) -> Result<(), AllocError> {
-        let number = literal as usize;
+    fn push(&mut self, literal: PackedLit, watch: Watch) -> Result<(), AllocError> {
+        let number = literal.index();
         if number < self.lists.len() {
             self.lists[number].push(watch)?;
         }
@@ -82,29 +92,39 @@ impl Watches {
     }
 
     /// The watched literal of a clause beside this one.
-    pub(crate) fn other(&self, clause: u32, literal: u32) -> u32 {
+    pub(crate) fn other(&self, clause: ClauseRef, literal: PackedLit) -> PackedLit {
         self.pairs
             .as_slice()
-            .get(clause as usize)
+            .get(clause.index())
             .copied()
-            .unwrap_or(0)
-            ^ literal
+            .unwrap_or(LitPair::none())
+            .other(literal)
     }
 
     /// Watches a literal in place of another.
-    pub(crate) fn shift(&mut self, watch: Watch, from: u32, to: u32) -> Result<(), AllocError> {
-        let number = watch.clause as usize;
+    pub(crate) fn shift(
+        &mut self,
+        watch: &Watch,
+        from: PackedLit,
+        to: PackedLit,
+    ) -> Result<(), AllocError> {
+        let number = watch.clause.index();
         if number < self.pairs.len() {
-            self.pairs[number] = self.pairs[number] ^ from ^ to;
+            self.pairs[number] = LitPair::new(self.pairs[number].other(from), to);
         }
-        self.push(to, watch)
+        self.push(to, watch.again())
     }
 
     /// Watches two literals of a clause.
-    fn pair(&mut self, clause: u32, first: u32, second: u32) -> Result<(), AllocError> {
-        let number = clause as usize;
+    fn pair(
+        &mut self,
+        clause: ClauseRef,
+        first: PackedLit,
+        second: PackedLit,
+    ) -> Result<(), AllocError> {
+        let number = clause.index();
         if number < self.pairs.len() {
-            self.pairs[number] = first ^ second;
+            self.pairs[number] = LitPair::new(first, second);
         }
         self.push(
             first,
@@ -127,8 +147,8 @@ impl Watches {
 pub fn watch_clause(
     watches: &mut Watches,
     trail: &Trail,
-    clause: &[u32],
-    number: u32,
+    clause: &[PackedLit],
+    number: ClauseRef,
 ) -> Result<(), AllocError> {
     if clause.len() < 2 {
         return Ok(());
@@ -150,40 +170,36 @@ pub fn watch_clause(
     watches.pair(number, at(clause, first), at(clause, second))
 }
 
-/// The literal at the place in the clause, NONE behind its end.
-fn at(clause: &[u32], place: usize) -> u32 {
-    clause.get(place).copied().unwrap_or(NONE)
+/// The literal at the place in the clause, none after its end.
+fn at(clause: &[PackedLit], place: usize) -> PackedLit {
+    clause.get(place).copied().unwrap_or(PackedLit::none())
 }
 
 /// Watches all clauses.
 pub fn watch_all(alloc: Global, arena: &Arena, trail: &Trail) -> Result<Watches, AllocError>
-    requires { length arena.now < NONE }
+    requires { length arena.now < NO_CLAUSE }
 {
     let mut watches = Watches::new(alloc, trail.vars)?;
     for number in 0..arena.len() {
         watches.add()?;
-        watch_clause(
-            &mut watches,
-            trail,
-            arena.clause(number as u32),
-            number as u32,
-        )?;
+        let number = ClauseRef::new(number);
+        watch_clause(&mut watches, trail, arena.clause(number), number)?;
     }
     Ok(watches)
 }
 
-/// The watch at the place, one of no clause behind the end.
+/// The watch at the place, one of no clause after the end.
 pub(crate) fn watch_at(list: &[Watch], place: usize) -> Watch {
     list.get(place).copied().unwrap_or(Watch {
-        clause: NONE,
-        blocker: NONE,
+        clause: ClauseRef::none(),
+        blocker: PackedLit::none(),
     })
 }
 
 /// Keeps a watch at the place; the place behind it.
-pub(crate) fn keep(list: &mut [Watch], place: usize, watch: Watch) -> usize {
+pub(crate) fn keep(list: &mut [Watch], place: usize, watch: &Watch) -> usize {
     if place < list.len() {
-        list[place] = watch;
+        list[place] = watch.again();
         place + 1
     } else {
         place
@@ -195,7 +211,7 @@ pub(crate) fn close_up(list: &mut Vec<Watch>, to: usize, from: usize) {
     let mut place = to;
     for i in from..list.len() {
         let watch = watch_at(list, i);
-        place = keep(list, place, watch);
+        place = keep(list, place, &watch);
     }
     list.truncate(place);
 }

@@ -11,7 +11,8 @@ use Rattle.cpa_cnf.specs.Clauses.{has}
 use Rattle.cpa_cnf.specs.lemmas.Chains.{member_below}
 use Rattle.cpa_sat_trail.specs.declared.assertion.Jump.{Jump}
 use Rattle.cpa_sat_trail.specs.declared.trail.Trail.{Trail}
-use Rattle.cpa_sat_trail.specs.declared.trail.TheConstants.{NONE}
+use Rattle.cpa_sat_arena.specs.declared.literal.TheConstants.{NO_CLAUSE}
+use Rattle.cpa_sat_trail.specs.declared.trail.TheConstants.{NO_PLACE}
 use Rattle.cpa_sat_trail.specs.Trails.{IsTrail, IsJustified, IsReasonFor, height, lit_at, reason_at}
 use Rattle.cpa_sat_trail.specs.Trails.{place_of, AreClauses}
 use Rattle.cpa_sat_trail.specs.Propagations.{IsForced}
@@ -32,22 +33,22 @@ pub record IsPushed (t u : Trail) (l reason : ℕ) : Type 0 where
   pub reasons : u.reasons.items ≡ t.reasons.items ++ reason ∷ []
   pub places : u.places.items ≡ set t.places.items l (height t)
 
-place_far : (t : Trail) (p n : ℕ) → IsTrail t → p < n → n ≤ height t → p ≡ NONE → ⊥
+place_far : (t : Trail) (p n : ℕ) → IsTrail t → p < n → n ≤ height t → p ≡ NO_PLACE → ⊥
 place_far t p n s h k e = far p n (height t) t.vars h k s.short s.small e
   where
-    far : (q m g v : ℕ) → q < m → m ≤ g → g ≤ v → v < 2 ^ 31 → q ≡ NONE → ⊥
+    far : (q m g v : ℕ) → q < m → m ≤ g → g ≤ v → v < 2 ^ 31 → q ≡ NO_PLACE → ⊥
     far q m g v a b c d f = absurd (omega arith)
 
 kept_place : (t u : Trail) (l reason x i : ℕ) → IsTrail t → IsPushed t u l reason
-    → place_of t l ≡ NONE → place_of t x < i → i ≤ height t → place_of u x ≡ place_of t x
+    → place_of t l ≡ NO_PLACE → place_of t x < i → i ≤ height t → place_of u x ≡ place_of t x
 kept_place t u l reason x i s p none before inside =
     ap (λ xs. get_or xs x 0) p.places
     ∙ get_or-set_other t.places.items l x (height t) 0
     (λ e. place_far t (place_of t x) i s before inside (ap (λ y. place_of t y) e ∙ none))
 
 pub justified_push : (cs : List (List ℕ)) (t u : Trail) (l reason : ℕ) → IsSound cs t
-    → IsPushed t u l reason → place_of t l ≡ NONE
-    → (reason ≢ NONE → (reason < length cs)
+    → IsPushed t u l reason → place_of t l ≡ NO_PLACE
+    → (reason ≢ NO_CLAUSE → (reason < length cs)
     × IsReasonFor (slice_index_or cs reason []) u (height t)) → IsJustified cs u
 justified_push cs t u l reason s p none new i inside forced = go (cases_lt i (height t))
   where
@@ -137,13 +138,13 @@ cut_place t u count x s c range before =
 
 -- what stood at or behind the cut has no place any more
 pub cut_gone : (t u : Trail) (count x : ℕ) → IsTrail t → IsCutTo t u count → x < 2 * t.vars
-    → count ≤ place_of t x → place_of u x ≡ NONE
-cut_gone t u count x s c range past = go (cases_eq (place_of u x) NONE)
+    → count ≤ place_of t x → place_of u x ≡ NO_PLACE
+cut_gone t u count x s c range past = go (cases_eq (place_of u x) NO_PLACE)
   where
     high : height u ≡ count
     high = ap (λ xs. length xs) c.lits ∙ length-take-le count t.lits.items c.fewer
 
-    go : (place_of u x ≡ NONE) ⊎ (place_of u x ≡ NONE → ⊥) → place_of u x ≡ NONE
+    go : (place_of u x ≡ NO_PLACE) ⊎ (place_of u x ≡ NO_PLACE → ⊥) → place_of u x ≡ NO_PLACE
     go (inl e) = e
     go (inr ne) =
         let q = place_of u x in
@@ -218,26 +219,26 @@ forces cs t u jump number s c a = record {
     lit_range : lit_at t jump.at < 2 * t.vars
     lit_range = s.trail.below jump.at a.inside
 
-    here : place_of t (lit_at t jump.at) ≢ NONE
+    here : place_of t (lit_at t jump.at) ≢ NO_PLACE
     here e = place_far t jump.at (height t) s.trail a.inside (same_le (height t))
         (sym (s.trail.stands jump.at a.inside) ∙ e)
       where
         same_le : (n : ℕ) → n ≤ n
         same_le n = omega arith
 
-    cut_none : place_of u (opposite (lit_at t jump.at)) ≡ NONE
+    cut_none : place_of u (opposite (lit_at t jump.at)) ≡ NO_PLACE
     cut_none =
         cut_gone t u jump.cut (opposite (lit_at t jump.at)) s.trail c
         (opposite_below (lit_at t jump.at) t.vars lit_range)
         (high jump.cut (height t) t.vars (place_of t (opposite (lit_at t jump.at))) c.fewer
         s.trail.short s.trail.small (s.trail.one (lit_at t jump.at) lit_range here))
       where
-        high : (a b v p : ℕ) → a ≤ b → b ≤ v → v < 2 ^ 31 → p ≡ NONE → a ≤ p
+        high : (a b v p : ℕ) → a ≤ b → b ≤ v → v < 2 ^ 31 → p ≡ NO_PLACE → a ≤ p
         high a b v p h k m e = omega arith
 
 pub sound_push : (cs : List (List ℕ)) (t u : Trail) (l reason : ℕ) → IsSound cs t → IsTrail u
-    → IsPushed t u l reason → place_of t l ≡ NONE
-    → (reason ≢ NONE → (reason < length cs)
+    → IsPushed t u l reason → place_of t l ≡ NO_PLACE
+    → (reason ≢ NO_CLAUSE → (reason < length cs)
     × IsReasonFor (slice_index_or cs reason []) u (height t)) → IsSound cs u
 sound_push cs t u l reason s is p none new = record {
   trail = is;
@@ -258,8 +259,8 @@ rises_push t u l reason s r p =
     room a h g v w e f k q = omega arith
 
 pub rises_jump : (t u w : Trail) (cut l number : ℕ) → IsTrail t → IsCutTo t u cut
-    → IsPushed u w l number → cut < height t → reason_at t cut ≡ NONE
-    → (number ≡ NONE → ⊥) → progress t < progress w
+    → IsPushed u w l number → cut < height t → reason_at t cut ≡ NO_CLAUSE
+    → (number ≡ NO_CLAUSE → ⊥) → progress t < progress w
 rises_jump t u w cut l number s c p inside decision forced =
     subst (λ n. progress t < weight n w.reasons.items) (sym (p.vars ∙ c.vars))
     (subst (λ rs. progress t < weight t.vars rs)

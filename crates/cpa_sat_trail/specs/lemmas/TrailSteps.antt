@@ -13,7 +13,7 @@ use Rattle.std.specs.List.{IsDistinct, list_any}
 use Rattle.std.proofs.Math.Dec.{eqb}
 use Rattle.cpa_cnf.specs.Literals.{opposite}
 use Rattle.cpa_sat_trail.specs.declared.trail.Trail.{Trail}
-use Rattle.cpa_sat_trail.specs.declared.trail.TheConstants.{NONE}
+use Rattle.cpa_sat_trail.specs.declared.trail.TheConstants.{NO_PLACE}
 use Rattle.cpa_sat_trail.specs.Trails.{IsTrail, lit_at, place_of, height}
 
 pub opposite_twice : (l : ℕ) → opposite (opposite l) ≡ l
@@ -29,11 +29,11 @@ same_variable : (a b : ℕ) → a / 2 ≡ b / 2 → (a ≡ b → ⊥) → a ≡ 
 same_variable a b h ne = omega arith
 
 -- each variable once, so no more literals than variables
-few : (vars : ℕ) (lits places : List ℕ) → length lits < NONE
+few : (vars : ℕ) (lits places : List ℕ) → length lits < NO_PLACE
     → ((i : ℕ) → i < length lits → get_or lits i 0 < 2 * vars)
     → ((i : ℕ) → i < length lits → get_or places (get_or lits i 0) 0 ≡ i)
-    → ((l : ℕ) → l < 2 * vars → get_or places l 0 ≢ NONE
-    → get_or places (opposite l) 0 ≡ NONE)
+    → ((l : ℕ) → l < 2 * vars → get_or places l 0 ≢ NO_PLACE
+    → get_or places (opposite l) 0 ≡ NO_PLACE)
     → length lits ≤ vars
 few vars lits places small below stands one =
     omega (
@@ -58,7 +58,7 @@ few vars lits places small below stands one =
         go (inr ne) =
             let flipped : get_or lits j 0 ≡ opposite (get_or lits i 0) =
             same_variable (get_or lits j 0) (get_or lits i 0) (sym same) ne in
-            let none : get_or places (opposite (get_or lits i 0)) 0 ≡ NONE =
+            let none : get_or places (opposite (get_or lits i 0)) 0 ≡ NO_PLACE =
             one (get_or lits i 0) (below i (omega arith))
             (λ e. absurd (omega (arith, stands i (omega arith)))) in
             absurd (omega (arith, stands j h, ap (λ l. get_or places l 0) flipped))
@@ -83,8 +83,8 @@ few vars lits places small below stands one =
     each : (q : ℕ) → list_any (eqb q) (map (λ l. l / 2) lits) ≡ true → q < vars
     each q h = each_at lits below q h
 
-pub pushed : (t u : Trail) (l : ℕ) → IsTrail t → l < 2 * t.vars → place_of t l ≡ NONE
-    → place_of t (opposite l) ≡ NONE
+pub pushed : (t u : Trail) (l : ℕ) → IsTrail t → l < 2 * t.vars → place_of t l ≡ NO_PLACE
+    → place_of t (opposite l) ≡ NO_PLACE
     → u.vars ≡ t.vars → u.lits.items ≡ t.lits.items ++ l ∷ []
     → length u.reasons.items ≡ length t.reasons.items + 1
     → u.places.items ≡ set t.places.items l (height t) → IsTrail u
@@ -151,7 +151,7 @@ pushed t u l s in_range not_true not_false same_vars lits reasons places = recor
             let at : i ≡ height t = omega (arith, higher) in
             ap (λ y. place_of u y) (ap (λ k. lit_at u k) at ∙ new_lit) ∙ new_place ∙ sym at
 
-    inside_at : (x : ℕ) → x < 2 * t.vars → place_of u x ≢ NONE → (x ≡ l) ⊎ (x ≡ l → ⊥)
+    inside_at : (x : ℕ) → x < 2 * t.vars → place_of u x ≢ NO_PLACE → (x ≡ l) ⊎ (x ≡ l → ⊥)
         → place_of u x < height u
     inside_at x h here (inl e) = omega (arith, ap (λ y. place_of u y) e, new_place, higher)
     inside_at x h here (inr ne) = omega (
@@ -161,17 +161,17 @@ pushed t u l s in_range not_true not_false same_vars lits reasons places = recor
       s.inside x h (λ none. here (old_place x ne ∙ none)),
     )
 
-    back_at : (x : ℕ) → x < 2 * t.vars → place_of u x ≢ NONE → (x ≡ l) ⊎ (x ≡ l → ⊥)
+    back_at : (x : ℕ) → x < 2 * t.vars → place_of u x ≢ NO_PLACE → (x ≡ l) ⊎ (x ≡ l → ⊥)
         → lit_at u (place_of u x) ≡ x
     back_at x h here (inl e) = ap (λ k. lit_at u k) (ap (λ y. place_of u y) e ∙ new_place) ∙ new_lit
         ∙ sym e
     back_at x h here (inr ne) =
-        let was : place_of t x ≢ NONE = λ none. here (old_place x ne ∙ none) in
+        let was : place_of t x ≢ NO_PLACE = λ none. here (old_place x ne ∙ none) in
         ap (λ k. lit_at u k) (old_place x ne) ∙ old_lit (place_of t x) (s.inside x h was)
         ∙ s.back x h was
 
-    one_at : (x : ℕ) → x < 2 * t.vars → place_of u x ≢ NONE → (x ≡ l) ⊎ (x ≡ l → ⊥)
-        → (opposite x ≡ l) ⊎ (opposite x ≡ l → ⊥) → place_of u (opposite x) ≡ NONE
+    one_at : (x : ℕ) → x < 2 * t.vars → place_of u x ≢ NO_PLACE → (x ≡ l) ⊎ (x ≡ l → ⊥)
+        → (opposite x ≡ l) ⊎ (opposite x ≡ l → ⊥) → place_of u (opposite x) ≡ NO_PLACE
     one_at x h here (inl e) q = old_place (opposite x) (λ f. opposite_differs x (f ∙ sym e))
         ∙ ap (λ y. place_of t (opposite y)) e ∙ not_false
     one_at x h here (inr ne) (inl f) =
@@ -180,17 +180,17 @@ pushed t u l s in_range not_true not_false same_vars lits reasons places = recor
     one_at x h here (inr ne) (inr apart) = old_place (opposite x) apart
         ∙ s.one x h (λ none. here (old_place x ne ∙ none))
 
-    one : (x : ℕ) → x < 2 * u.vars → place_of u x ≢ NONE
-        → place_of u (opposite x) ≡ NONE
+    one : (x : ℕ) → x < 2 * u.vars → place_of u x ≢ NO_PLACE
+        → place_of u (opposite x) ≡ NO_PLACE
     one x h here = one_at x (omega (arith, h)) here (cases_eq x l) (cases_eq (opposite x) l)
 
 pub popped : (t u : Trail) (l : ℕ) → IsTrail t → 0 < height t → l ≡ lit_at t (height t - 1)
     → u.vars ≡ t.vars → u.lits.items ≡ take (height t - 1) t.lits.items
     → u.reasons.items ≡ take (height t - 1) t.reasons.items
-    → u.places.items ≡ set t.places.items l NONE → IsTrail u
+    → u.places.items ≡ set t.places.items l NO_PLACE → IsTrail u
 popped t u l s some is same_vars lits reasons places = record {
   small = omega (arith, s.small);
-  long = omega (arith, s.long, ap length places, length-set t.places.items l NONE);
+  long = omega (arith, s.long, ap length places, length-set t.places.items l NO_PLACE);
   short = omega (arith, s.short, lower);
   paired = omega (
     arith,
@@ -202,7 +202,7 @@ popped t u l s some is same_vars lits reasons places = record {
   below = λ i h. omega (arith, old_lit i (omega (arith, lower)), s.below i (omega (arith, lower)));
   stands = λ i h. ap (λ y. place_of u y) (old_lit i (omega (arith, lower)))
       ∙ old_place (lit_at t i) (other i (omega (arith, lower))) ∙ s.stands i (omega (arith, lower));
-  inside = λ x h here. let ne = gone x here in let was : place_of t x ≢ NONE =
+  inside = λ x h here. let ne = gone x here in let was : place_of t x ≢ NO_PLACE =
       λ none. here (old_place x ne ∙ none) in
       omega (
         arith,
@@ -211,7 +211,7 @@ popped t u l s some is same_vars lits reasons places = record {
         s.inside x (omega (arith, h)) was,
         not_last x (omega (arith, h)) was ne,
       );
-  back = λ x h here. let ne = gone x here in let was : place_of t x ≢ NONE =
+  back = λ x h here. let ne = gone x here in let was : place_of t x ≢ NO_PLACE =
       λ none. here (old_place x ne ∙ none) in
       ap (λ k. lit_at u k) (old_place x ne)
       ∙ old_lit (place_of t x) (omega (
@@ -219,7 +219,7 @@ popped t u l s some is same_vars lits reasons places = record {
         s.inside x (omega (arith, h)) was,
         not_last x (omega (arith, h)) was ne,
       )) ∙ s.back x (omega (arith, h)) was;
-  one = λ x h here. let ne = gone x here in let was : place_of t x ≢ NONE =
+  one = λ x h here. let ne = gone x here in let was : place_of t x ≢ NO_PLACE =
       λ none. here (old_place x ne ∙ none) in
       flipped (opposite x) (s.one x (omega (arith, h)) was) (cases_eq (opposite x) l);
 }
@@ -235,13 +235,13 @@ popped t u l s some is same_vars lits reasons places = record {
 
     old_place : (x : ℕ) → (x ≡ l → ⊥) → place_of u x ≡ place_of t x
     old_place x ne = ap (λ xs. get_or xs x 0) places
-        ∙ get_or-set_other t.places.items l x NONE 0 ne
+        ∙ get_or-set_other t.places.items l x NO_PLACE 0 ne
 
-    new_place : place_of u l ≡ NONE
+    new_place : place_of u l ≡ NO_PLACE
     new_place = ap (λ xs. get_or xs l 0) places
-        ∙ get_or-set_same t.places.items l NONE 0 inside_table
+        ∙ get_or-set_same t.places.items l NO_PLACE 0 inside_table
 
-    gone : (x : ℕ) → place_of u x ≢ NONE → x ≡ l → ⊥
+    gone : (x : ℕ) → place_of u x ≢ NO_PLACE → x ≡ l → ⊥
     gone x here e = here (ap (λ y. place_of u y) e ∙ new_place)
 
     other : (i : ℕ) → i < height t - 1 → lit_at t i ≡ l → ⊥
@@ -252,11 +252,11 @@ popped t u l s some is same_vars lits reasons places = record {
       ap (λ y. place_of t y) (e ∙ is),
     ))
 
-    not_last : (x : ℕ) → x < 2 * t.vars → place_of t x ≢ NONE → (x ≡ l → ⊥)
+    not_last : (x : ℕ) → x < 2 * t.vars → place_of t x ≢ NO_PLACE → (x ≡ l → ⊥)
         → place_of t x ≢ height t - 1
     not_last x h was ne e = ne (sym (s.back x h was) ∙ ap (λ k. lit_at t k) e ∙ sym is)
 
-    flipped : (y : ℕ) → place_of t y ≡ NONE → (y ≡ l) ⊎ (y ≡ l → ⊥)
-        → place_of u y ≡ NONE
+    flipped : (y : ℕ) → place_of t y ≡ NO_PLACE → (y ≡ l) ⊎ (y ≡ l → ⊥)
+        → place_of u y ≡ NO_PLACE
     flipped y none (inl e) = ap (λ z. place_of u z) e ∙ new_place
     flipped y none (inr ne) = old_place y ne ∙ none

@@ -9,12 +9,12 @@ use Rattle.cpa_cnf.specs.Literals.{opposite}
 use Rattle.cpa_cnf.specs.Clauses.{has}
 use Rattle.cpa_cnf.specs.Models.{value_of_literal, Satisfies}
 use Rattle.cpa_sat_trail.specs.declared.trail.Trail.{Trail}
-use Rattle.cpa_sat_trail.specs.declared.trail.TheConstants.{NONE}
+use Rattle.cpa_sat_trail.specs.declared.trail.TheConstants.{NO_PLACE}
 use Rattle.cpa_sat_trail.specs.Trails.{IsTrail, place_of}
 use Rattle.cpa_sat_trail.specs.Findings.{AreValues, IsSatisfiedIn}
 
 pub values_more : (t : Trail) (n : ℕ) (vs : List Bool) (b : Bool) → AreValues t n vs
-    → (IsTrue b ↔ (place_of t (n * 2) ≢ NONE)) → AreValues t (n + 1) (vs ++ b ∷ [])
+    → (IsTrue b ↔ (place_of t (n * 2) ≢ NO_PLACE)) → AreValues t (n + 1) (vs ++ b ∷ [])
 values_more t n vs b values here = record {
   long = length_push vs b ∙ ap (λ k. k + 1) values.long;
   each = λ v h. go v h (cases_lt v n);
@@ -27,16 +27,16 @@ values_more t n vs b values here = record {
     last v h k = omega arith
 
     go : (v : ℕ) → v < n + 1 → (v < n) ⊎ (n ≤ v)
-        → IsTrue (slice_index_or (vs ++ b ∷ []) v true) ↔ (place_of t (2 * v) ≢ NONE)
+        → IsTrue (slice_index_or (vs ++ b ∷ []) v true) ↔ (place_of t (2 * v) ≢ NO_PLACE)
     go v h (inl less) =
-        subst (λ c. IsTrue c ↔ (place_of t (2 * v) ≢ NONE))
+        subst (λ c. IsTrue c ↔ (place_of t (2 * v) ≢ NO_PLACE))
         (sym (get_or_append_left vs (b ∷ []) true v
         (subst (λ k. v < k) (sym values.long) less))) (values.each v less)
     go v h (inr past) =
         let at : v ≡ n = last v h past in
-        subst (λ c. IsTrue c ↔ (place_of t (2 * v) ≢ NONE))
+        subst (λ c. IsTrue c ↔ (place_of t (2 * v) ≢ NO_PLACE))
         (sym (get_or_push vs b true v (values.long ∙ sym at)))
-        (subst (λ x. IsTrue b ↔ (place_of t x ≢ NONE)) (twice n
+        (subst (λ x. IsTrue b ↔ (place_of t x ≢ NO_PLACE)) (twice n
         ∙ ap (λ k. 2 * k) (sym at)) here)
 
 abbrev by_sign : Bool → Bool → Bool
@@ -48,7 +48,7 @@ true_or_not false h = refl
 
 -- a literal that is true on the trail is true under the values
 pub literal_true : (t : Trail) (vs : List Bool) (l : ℕ) → IsTrail t → AreValues t t.vars vs
-    → l < 2 * t.vars → place_of t l ≢ NONE → value_of_literal vs l ≡ true
+    → l < 2 * t.vars → place_of t l ≢ NO_PLACE → value_of_literal vs l ≡ true
 literal_true t vs l s values range here = go (cases_eq (l % 2) 0)
   where
     half : l / 2 < t.vars
@@ -79,9 +79,9 @@ satisfied t vs clause s values below found =
     (found.0, found.1, literal_true t vs found.0 s values (below found.0 found.1) found.2)
 
 -- what is not so is not
-pub none_of : (p : ℕ) → ((p ≡ NONE → ⊥) → false ≡ true) → p ≡ NONE
-none_of p h = go (cases_eq p NONE)
+pub none_of : (p : ℕ) → ((p ≡ NO_PLACE → ⊥) → false ≡ true) → p ≡ NO_PLACE
+none_of p h = go (cases_eq p NO_PLACE)
   where
-    go : (p ≡ NONE) ⊎ (p ≡ NONE → ⊥) → p ≡ NONE
+    go : (p ≡ NO_PLACE) ⊎ (p ≡ NO_PLACE → ⊥) → p ≡ NO_PLACE
     go (inl e) = e
     go (inr ne) = absurd (false≢true (h ne))

@@ -1,16 +1,11 @@
-use Rattle.std.proofs.Common.{◌≡◌, ◌++◌, ◌∷◌, [], List, ℕ, length, Result, Ok, Err, ap, sym, ◌∙◌}
+use Rattle.std.proofs.Common.{◌≡◌, ◌++◌, ◌∷◌, [], List, ℕ, length, ap, sym, ◌∙◌}
 use Rattle.std.proofs.Common.{subst, arith}
-use Rattle.std.specs.Prelude.{OnErr}
 use Rattle.std.specs.List.{AllByRecursion}
 use Rattle.cpa_sat_arena.specs.declared.store.Extent.{Extent}
 use Rattle.cpa_sat_arena.specs.Extents.{clauses_of, IsFiled}
 use Rattle.cpa_sat_arena.specs.Hashes.{clause_hash}
-use Rattle.cpa_sat_arena.proofs.Stores.{more_clauses, more_filed, filed_next, clauses_next}
+use Rattle.cpa_sat_arena.proofs.Stores.{more_clauses, more_filed, filed_next, clauses_next, on_err}
 use Rattle.cpa_sat_arena.proofs.store.file.Goals as goal
-
-on_err : {X E : Type 0} (r : Result X E) (P : Type 0) → P → OnErr r P
-on_err (Ok x) P p = tt
-on_err (Err e) P p = p
 
 more : (xs zs ys : List ℕ) (es : List Extent) → zs ≡ xs ++ ys → AllByRecursion (IsFiled xs) es
     → AllByRecursion (IsFiled zs) es

@@ -18,7 +18,7 @@ returns-clause-gives_way c =
     let num = get_or_read t.reasons.items place c.index-number.result.now held
     c.index-number.ensures 0 in
     gives_way c.args.analysis.now c.resolve.new.self t place
-    (slice_index_or cs c.index-number.result.now []) c.flip-literal.result
-    (c.flip-literal.ensures ∙ ap opposite lit) c.in_ok-resolve.ensures.union
+    (slice_index_or cs c.index-number.result.now []) c.opposite-literal.result
+    (c.opposite-literal.ensures ∙ ap opposite lit) c.in_ok-resolve.ensures.union
     (subst (λ n. IsReasonFor (slice_index_or cs n []) t place) (sym num)
     (r.analysing.justified place r.inside r.forced).1)

@@ -1,6 +1,6 @@
 use Rattle.std.proofs.Common.{◌≡◌, ◌<◌, ◌≤◌, ℕ, sym, subst, arith}
 use Rattle.std.specs.Prelude.{slice_index_or, []}
-use Rattle.cpa_sat_trail.specs.declared.trail.TheConstants.{NONE}
+use Rattle.cpa_sat_arena.specs.declared.literal.TheConstants.{NO_CLAUSE}
 use Rattle.cpa_sat_trail.specs.Propagations.{IsForced}
 use Rattle.cpa_sat_trail.specs.Trails.{height}
 use Rattle.cpa_sat_trail.specs.lemmas.Sound.{IsPushed, IsCutTo, sound_cut, forces, sound_push}
@@ -75,4 +75,4 @@ returns-clause-rises c =
       places = f.places;
     } in
     rises_jump t u w j.cut x k c.requires.sound.trail cut pushed inside a.decision
-    (apart k NONE c.requires.number)
+    (apart k NO_CLAUSE c.requires.number)

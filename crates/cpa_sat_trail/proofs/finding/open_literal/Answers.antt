@@ -1,9 +1,8 @@
-use Rattle.std.proofs.Common.{◌≢◌, ℕ, get_or, refl}
-use Rattle.std.proofs.lemmas.List.{get_or_default}
+use Rattle.std.proofs.Common.{◌≢◌, ℕ, refl}
 use Rattle.cpa_cnf.specs.Literals.{opposite}
 use Rattle.cpa_cnf.specs.lemmas.Members.{has-at, more}
 use Rattle.cpa_cnf.specs.lemmas.Chains.{member_below}
-use Rattle.cpa_sat_trail.specs.declared.trail.TheConstants.{NONE}
+use Rattle.cpa_sat_trail.specs.declared.trail.TheConstants.{NO_PLACE}
 use Rattle.cpa_sat_trail.specs.Trails.{place_of}
 use Rattle.cpa_sat_trail.specs.lemmas.Values.{none_of}
 use Rattle.cpa_sat_trail.proofs.finding.open_literal.Goals as goal
@@ -13,9 +12,9 @@ returns-then-not-is_false-clause-some c =
     let t = c.args.trail.now in
     let xs = c.args.clause.now in
     let k = c.loop-literal.literal-index in
-    let x : ℕ = get_or xs k 0 in
+    let x : ℕ = c.literal-item.result in
     let here = has-at xs k x c.loop-literal-test.true
-    (get_or_default xs k 0 x c.loop-literal-test.true) in
+    c.literal-item.is in
     record {
       range = member_below t.vars xs x c.requires.below here;
       not_true = c.requires.no_true x here;
@@ -26,7 +25,7 @@ pub loop-literal-preserved : goal.loop-literal-preserved
 loop-literal-preserved c =
     let xs = c.args.clause.now in
     let k = c.loop-literal.literal-index in
-    let x : ℕ = get_or xs k 0 in
-    let P : ℕ → Type 0 = λ l. place_of c.args.trail.now (opposite l) ≢ NONE in
-    more P xs k x c.loop-literal-test.true (get_or_default xs k 0 x c.loop-literal-test.true)
+    let x : ℕ = c.literal-item.result in
+    let P : ℕ → Type 0 = λ l. place_of c.args.trail.now (opposite l) ≢ NO_PLACE in
+    more P xs k x c.loop-literal-test.true c.literal-item.is
     c.loop-literal.invariant (c.if-not-is_false.ensures.0 refl)

@@ -1,9 +1,25 @@
-use Rattle.std.proofs.Common.{◌≡◌, ◌+◌, List, ℕ, length, ap, sym, ◌∙◌, subst, arith}
+use Rattle.std.proofs.Common.{◌≡◌, ◌+◌, ◌++◌, ◌∷◌, [], List, ℕ, length, ap, sym, ◌∙◌, subst}
+use Rattle.std.proofs.Common.{arith}
 use Rattle.std.proofs.lemmas.List.{length-map, length_push}
 use Rattle.cpa_sat_arena.specs.declared.store.Extent.{Extent}
 use Rattle.cpa_sat_arena.specs.Extents.{IsRoomy, hashes_of}
 use Rattle.cpa_sat_arena.proofs.Stores.{index_next}
 use Rattle.cpa_sat_arena.proofs.store.Store.push.Goals as goal
+
+one_more : (es fs : List Extent) (hash : ℕ) → hashes_of fs ≡ hashes_of es ++ hash ∷ []
+    → length fs ≡ length es + 1
+one_more es fs hash e =
+    sym (length-map fs (λ (x : Extent). x.hash)) ∙ ap (λ (hs : List ℕ). length hs) e
+    ∙ length_push (hashes_of es) hash
+    ∙ ap (λ k. k + 1) (length-map es (λ (x : Extent). x.hash))
+
+pub returns-clause-few : goal.returns-clause-few
+returns-clause-few c =
+    omega (
+      arith,
+      one_more c.args.self.now.extents.items c.file.new.extents.items c.in_ok-hash.hash
+          c.in_ok-hash.ensures.hashes,
+    )
 
 pub returns-clause-stored : goal.returns-clause-stored
 returns-clause-stored c =
@@ -15,10 +31,7 @@ returns-clause-stored c =
     let roomy : IsRoomy es c.make_room.new.index =
     subst (λ (xs : List Extent). IsRoomy xs c.make_room.new.index) c.deref.ensures.value
     c.in_ok-make_room.ensures.ok in
-    let count : length fs ≡ length es + 1 =
-    sym (length-map fs (λ (x : Extent). x.hash)) ∙ ap (λ (hs : List ℕ). length hs) e.hashes
-    ∙ length_push (hashes_of es) c.in_ok-hash.hash
-    ∙ ap (λ k. k + 1) (length-map es (λ (x : Extent). x.hash)) in
+    let count : length fs ≡ length es + 1 = one_more es fs c.in_ok-hash.hash e.hashes in
     record {
       filed = e.filed;
       is_indexed = index_next es fs c.in_ok-hash.hash c.len-number.result c.make_room.new.index

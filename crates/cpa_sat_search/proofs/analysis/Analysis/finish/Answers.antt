@@ -7,7 +7,7 @@ use Rattle.cpa_sat_search.proofs.analysis.Analysis.finish.Goals as goal
 pub returns-clause-line : goal.returns-clause-line
 returns-clause-line c =
     let same = c.in_ok-take_all.ensures.same in
-    finished c.args.arena.now c.args.self.now _ c.requires same.first
+    finished c.args.arena.now c.args.self.now _ c.requires (c.number.ensures ∙ same.first)
     (c.from_vec-steps.ensures ∙ ap (λ (v : Vec Step Global). v.items) c.replace.ensures.value
     ∙ same.steps)
     c.in_ok-clause.ensures.sorted

@@ -10,7 +10,8 @@ returns-clause-noted c l h =
     let a = c.args.self.now in
     let x = c.args.literal in
     let marks : c.count.new.self.marks.items ≡ set a.marks.items x true =
-    ap (λ (b : Analysis). b.marks.items) c.count.ensures in
+    ap (λ (b : Analysis). b.marks.items) c.count.ensures
+    ∙ ap (λ i. set a.marks.items i true) c.index-at.ensures in
     let touched : c.push.new.self.items ≡ a.touched.items ++ x ∷ [] =
     c.in_ok-push.ensures.items ∙ ap (λ (b : Analysis). b.touched.items ++ x ∷ []) c.count.ensures in
     ap (λ xs. has xs l) touched

@@ -1,5 +1,6 @@
-use Rattle.std.proofs.Common.{◌≡◌, ◌-◌, ◌<◌, ℕ, refl, ap, ◌∙◌, subst, take, get_or, arith}
+use Rattle.std.proofs.Common.{◌≡◌, ◌-◌, ◌<◌, ℕ, refl, ap, ◌∙◌, subst, take, get_or, set, arith}
 use Rattle.std.proofs.lemmas.List.{get_or_read}
+use Rattle.cpa_sat_trail.specs.declared.trail.TheConstants.{NO_PLACE}
 use Rattle.cpa_sat_trail.specs.Trails.{height}
 use Rattle.cpa_sat_trail.specs.lemmas.TrailSteps.{popped}
 use Rattle.cpa_sat_trail.proofs.trail.Trail.pop.Goals as goal
@@ -18,7 +19,7 @@ returns-clause-trail c =
     refl
     (c.truncate.ensures.items ∙ ap (λ n. take (n - 1) t.lits.items) count)
     (c.truncate-2.ensures.items ∙ ap (λ n. take (n - 1) t.reasons.items) count)
-    refl
+    (ap (λ i. set t.places.items i NO_PLACE) c.index.ensures)
   where
     below_last : (n : ℕ) → 0 < n → n - 1 < n
     below_last n h = omega arith

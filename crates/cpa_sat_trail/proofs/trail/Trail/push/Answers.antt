@@ -10,4 +10,5 @@ returns-clause-trail c =
     pushed t _ c.args.literal r.trail r.in_range r.not_true r.not_false refl
     c.in_ok-push.ensures.items
     (ap (λ xs. length xs) c.in_ok-push-2.ensures.items ∙ length_push t.reasons.items c.args.reason)
-    (ap (λ n. set t.places.items c.args.literal n) (c.len-place.ensures ∙ t.lits.ok.0))
+    (ap (λ i. set t.places.items i c.len-place.result) c.index.ensures
+    ∙ ap (λ n. set t.places.items c.args.literal n) (c.len-place.ensures ∙ t.lits.ok.0))
