@@ -1,0 +1,98 @@
+//! Which cells edges read and write, and whether an expression behind an edge reads only what both
+//! parts of the path have in common, by `ReadsShared` of `cpa_interpolant_rules`.
+//! Proved with `proofs/SharedCells.antt`.
+
+ghost use Rattle.std.specs.Prelude.{◌≡◌, ◌<◌, length, slice_get, Some, IsTrue};
+ghost use Rattle.std.specs.List.{AllByRecursion};
+ghost use Rattle.cpa_expr.specs.Cells.{is_within};
+ghost use Rattle.cpa_model.specs.declared.automaton.Edge.{Edge as AnEdge};
+ghost use Rattle.cpa_model.specs.Automata.{IsAutomaton};
+ghost use Rattle.cpa_model.specs.Expressions.{IsExpr};
+ghost use Rattle.cpa_form_rules.specs.Reading.{ActReads};
+ghost use Rattle.cpa_folds.specs.Along.{acts_along};
+ghost use Rattle.cpa_interpolant_rules.specs.Stores.{ActWrites, SomeActReads};
+ghost use Rattle.cpa_interpolant_rules.specs.Interpolants.{ReadsShared};
+ghost use Rattle.cpa_interpolant_words.specs.Words.{IsShared};
+
+use cpa_expr::{Expr, may_read};
+use cpa_model::{Act, Cfa};
+
+/// Whether the cell is one of `len` cells from `base` on.
+pub(crate) fn is_within(base: u32, len: u32, cell: u32) -> bool
+    ensures { result ≡ is_within base len cell }
+{
+    base <= cell && cell - base < len
+}
+
+/// Whether an edge with this act reads the cell.
+fn act_reads(act: &Act, cell: u32) -> bool
+    ensures { IsTrue result → ActReads act.now cell }
+{
+    match act {
+        Act::Assign {
+            base,
+            len,
+            index,
+            value,
+        } => {
+            may_read(index, cell)
+                || may_read(value, cell)
+                || (1 < *len && is_within(*base, *len, cell))
+        }
+        Act::Assume { test, .. } => may_read(test, cell),
+        Act::Skip | Act::Input { .. } | Act::Call { .. } | Act::Return { .. } => false,
+    }
+}
+
+/// Whether an edge with this act writes the cell.
+pub(crate) fn act_writes(act: &Act, cell: u32) -> bool
+    ensures { IsTrue result → ActWrites act.now cell }
+{
+    match act {
+        Act::Assign { base, len, .. } => is_within(*base, *len, cell),
+        Act::Input { cell: own } => cell == *own,
+        Act::Skip | Act::Assume { .. } | Act::Call { .. } | Act::Return { .. } => false,
+    }
+}
+
+/// Whether some of the edges reads the cell.
+fn some_act_reads(cfa: &Cfa, edges: &[u32], cell: u32) -> bool
+    requires path { AllByRecursion (λ edge. edge < length cfa.now.edges) edges.now }
+    ensures { IsTrue result → SomeActReads (acts_along cfa.now edges.now) cell }
+{
+    for i in 0..edges.len() {
+        if act_reads(&cfa.edge(edges[i]).act, cell) {
+            return true;
+        }
+    }
+    false
+}
+
+/// Whether the expression `f` behind the edge reads only cells that `e` or the edge reads or
+/// writes, and that one of the edges `behind` reads.
+pub(crate) fn reads_shared(cfa: &Cfa, e: &Expr, edge: u32, behind: &[u32], f: &Expr) -> bool
+    requires automaton { IsAutomaton cfa.now }
+    requires expr { IsExpr cfa.now.cells f.now }
+    requires edge { edge < length cfa.now.edges }
+    requires behind { AllByRecursion (λ edge. edge < length cfa.now.edges) behind.now }
+    ensures { (g : AnEdge) → slice_get cfa.now.edges edge ≡ Some g → IsTrue result
+        → ReadsShared g.act (acts_along cfa.now behind.now) e.now f.now }
+{
+    let act = &cfa.edge(edge).act;
+    let count = cfa.cells.len() as u32;
+    for cell in 0..count {
+        if may_read(f, cell) && !is_shared(cfa, e, act, behind, cell) {
+            return false;
+        }
+    }
+    true
+}
+
+/// Whether `e` or the act reads or writes the cell, and one of the edges `behind` reads it.
+fn is_shared(cfa: &Cfa, e: &Expr, act: &Act, behind: &[u32], cell: u32) -> bool
+    requires behind { AllByRecursion (λ edge. edge < length cfa.now.edges) behind.now }
+    ensures { IsTrue result → IsShared e.now act.now (acts_along cfa.now behind.now) cell }
+{
+    (may_read(e, cell) || act_reads(act, cell) || act_writes(act, cell))
+        && some_act_reads(cfa, behind, cell)
+}
