@@ -1,248 +1,279 @@
-//! Expressions for the cuts of a path, made from its last edge back to its first (weakest
-//! preconditions: Dijkstra 1975), with as few of its tests as the runs before them allow. Nothing
-//! is promised of them but that they are well typed where they are asked of the solver: whether
-//! they are interpolants is found out of each edge by itself (checking.rt).
+//! Expressions for the cuts of a path, made from its last edge back to its first. After each cut
+//! some small expressions are wanted; before its edge as few are chosen as make them nonzero after
+//! it, of those that hold behind all runs up to there: the path's own tests, then what is wanted
+//! carried over the edge (carrying.rt), then bounds of cells and comparisons of two (bounds.rt).
+//! Nothing is promised of them: whether they are interpolants is found out of each edge by itself
+//! (checking.rt).
 
 ghost use Rattle.std.specs.Prelude.{◌<◌, length};
 ghost use Rattle.std.specs.List.{AllByRecursion};
 ghost use Rattle.cpa_model.specs.Automata.{IsAutomaton};
 
-use crate::asking::{Asked, Limits, ask};
-use crate::checking::{is_zero, leads, nonzero};
-use crate::forms::part_behind;
-use crate::reading::act_writes;
-use cpa_expr::{
-    CmpOp, Expr, both, comparison, constant, copied, either, may_read, negation, replace_cell,
-    same_expr, size,
-};
-use cpa_form_rules::{adding_goes_on, forms_are_runs};
+use crate::asking::Limits;
+use crate::atoms::{Gathered, gathered};
+use crate::bounds::{bounds, relations};
+use crate::carrying::carried;
+use crate::checking::is_zero;
+use crate::holding::{Behind, behind, holding};
+use crate::nodes::{conjunction, push_new};
+use crate::reading::{cell_count, needs, reads_only, reads_written};
+use crate::selecting::{are_enough, fewest};
+use cpa_expr::{Expr, constant, copied, size};
 use cpa_ints::{Boxed, IntType};
-use cpa_model::{Act, Cfa, edges_are_sound, is_expr, steps_keep_states};
+use cpa_model::{Act, Cfa};
 use std::alloc::{AllocError, Global};
 
 /// The most nodes of an expression that is carried over an edge.
 const MAX_SIZE: u64 = 300;
 
-/// What an expression behind an edge asks of the store before it.
-#[derive(Drop)]
-enum Need {
-    /// The edge alone makes it nonzero.
-    Nothing,
-    /// This expression is nonzero.
-    Nonzero(Boxed<Expr>),
-    /// Nothing that is known of.
-    Unknown,
-}
+/// The most nodes of one that is preferred to bounds.
+const SMALL_SIZE: u64 = 8;
 
-/// The comparison that holds exactly where the other one does not.
-fn opposite(op: CmpOp) -> CmpOp {
-    match op {
-        CmpOp::Eq => CmpOp::Ne,
-        CmpOp::Ne => CmpOp::Eq,
-        CmpOp::Lt => CmpOp::Ge,
-        CmpOp::Le => CmpOp::Gt,
-        CmpOp::Gt => CmpOp::Le,
-        CmpOp::Ge => CmpOp::Lt,
-    }
-}
+/// The most cells that bounds are looked for.
+const MAX_BOUNDED: usize = 6;
 
-/// An expression that is nonzero exactly where the test is zero.
-fn denied(alloc: Global, test: &Expr) -> Result<Boxed<Expr>, AllocError> {
-    match test {
-        Expr::Not { arg } => copied(alloc, arg.get()),
-        Expr::Cmp {
-            op,
-            ty,
-            left,
-            right,
-        } => {
-            let left = copied(alloc, left.get())?;
-            let right = copied(alloc, right.get())?;
-            comparison(alloc, opposite(*op), *ty, left, right)
-        }
-        _ => {
-            let arg = copied(alloc, test)?;
-            negation(alloc, arg)
-        }
-    }
-}
-
-/// An expression that is nonzero exactly where the test has the truth.
-fn assumed(alloc: Global, test: &Expr, holds: bool) -> Result<Boxed<Expr>, AllocError> {
-    if !holds {
-        return denied(alloc, test);
-    }
-    match test {
-        Expr::Not { arg } => denied(alloc, arg.get()),
-        _ => copied(alloc, test),
-    }
-}
-
-/// Whether the expression is found to be nonzero behind all runs along the edges, from any store.
-fn holds_behind(
-    alloc: Global,
-    cfa: &Cfa,
-    edges: &[u32],
-    e: &Expr,
-    limits: Limits,
-) -> Result<bool, AllocError>
-    requires automaton { IsAutomaton cfa.now }
-    requires path { AllByRecursion (λ edge. edge < length cfa.now.edges) edges.now }
-{
-    if !is_expr(e, cfa.cells.as_slice()) {
-        return Ok(false);
-    }
-    forms_are_runs();
-    adding_goes_on();
-    edges_are_sound();
-    steps_keep_states();
-    let failing = nonzero(alloc, e)?;
-    let mut form = part_behind(alloc, cfa, edges)?;
-    form.fails_now(&failing)?;
-    let asked = ask(alloc, &form, limits)?;
-    match asked {
-        Asked::Never => Ok(true),
-        Asked::Sometimes(_) | Asked::Open => Ok(false),
-    }
-}
-
-/// Whether the edge alone is found to make the expression nonzero.
-fn is_made(
-    alloc: Global,
-    cfa: &Cfa,
-    edge: u32,
-    e: &Expr,
-    limits: Limits,
-) -> Result<bool, AllocError>
-    requires automaton { IsAutomaton cfa.now }
-    requires edge { edge < length cfa.now.edges }
-{
-    let one = constant(alloc, IntType::I32, 1)?;
-    if !is_expr(one.get(), cfa.cells.as_slice()) || !is_expr(e, cfa.cells.as_slice()) {
-        return Ok(false);
-    }
-    leads(alloc, cfa, one.get(), edge, e, limits)
-}
-
-/// Whether the expression may read a cell that the act writes.
-fn reads_written(cfa: &Cfa, act: &Act, e: &Expr) -> bool {
-    for cell in 0..cfa.cells.len() as u32 {
-        if act_writes(act, cell) && may_read(e, cell) {
-            return true;
-        }
-    }
-    false
-}
-
-/// What is needed before a test for the expression to be nonzero behind it, where these edges come
-/// before the test: nothing, where the test alone makes it so; itself, where the runs before the
-/// test do; else that the test is denied or that it is nonzero.
-fn needed_at_test(
-    alloc: Global,
-    cfa: &Cfa,
-    before: &[u32],
-    test: &Expr,
-    holds: bool,
-    e: &Expr,
-    limits: Limits,
-) -> Result<Need, AllocError>
-    requires automaton { IsAutomaton cfa.now }
-    requires path { AllByRecursion (λ edge. edge < length cfa.now.edges) before.now }
-{
-    let stands = holds_behind(alloc, cfa, before, e, limits)?;
-    if stands {
-        let own = copied(alloc, e)?;
-        return Ok(Need::Nonzero(own));
-    }
-    let unless = assumed(alloc, test, !holds)?;
-    if is_zero(e) {
-        return Ok(Need::Nonzero(unless));
-    }
-    let own = copied(alloc, e)?;
-    let need = either(alloc, unless, own)?;
-    Ok(Need::Nonzero(need))
-}
-
-/// What is needed before a write of the cell for the expression, which reads it, to be nonzero
-/// behind it.
-fn needed_at_write(
-    alloc: Global,
-    cfa: &Cfa,
-    cell: u32,
-    value: &Expr,
-    e: &Expr,
-    limits: Limits,
-) -> Result<Need, AllocError>
-    requires automaton { IsAutomaton cfa.now }
-{
-    let need = Boxed::new(alloc, replace_cell(alloc, e, cell, value)?)?;
-    let always = holds_behind(alloc, cfa, &[], need.get(), limits)?;
-    if always {
-        return Ok(Need::Nothing);
-    }
-    Ok(Need::Nonzero(need))
-}
-
-/// What is needed before the edge for the expression to be nonzero behind it, where these edges
-/// come before it.
-fn needed(
-    alloc: Global,
-    cfa: &Cfa,
-    before: &[u32],
-    edge: u32,
-    e: &Expr,
-    limits: Limits,
-) -> Result<Need, AllocError>
-    requires automaton { IsAutomaton cfa.now }
-    requires path { AllByRecursion (λ edge. edge < length cfa.now.edges) before.now }
-    requires edge { edge < length cfa.now.edges }
-{
-    let act = &cfa.edge(edge).act;
-    if !may_change(cfa, act, e) {
-        return Ok(Need::Nonzero(copied(alloc, e)?));
-    }
-    let made = is_made(alloc, cfa, edge, e, limits)?;
-    if made {
-        return Ok(Need::Nothing);
-    }
-    match act {
-        Act::Assume { test, holds } => {
-            needed_at_test(alloc, cfa, before, test, *holds, e, limits)
-        }
-        Act::Assign {
-            base,
-            len: 1,
-            value,
-            ..
-        } => needed_at_write(alloc, cfa, *base, value, e, limits),
-        _ => Ok(Need::Unknown),
-    }
+/// The list of the one expression.
+fn alone(alloc: Global, e: Boxed<Expr>) -> Result<Option<Vec<Expr>>, AllocError> {
+    let mut list = Vec::new(alloc);
+    list.push(e.into_inner())?;
+    Ok(Some(list))
 }
 
 /// Whether the act is a test, or writes a cell that the expression may read.
-fn may_change(cfa: &Cfa, act: &Act, e: &Expr) -> bool {
+fn may_change(cfa: &Cfa, act: &Act, e: &Expr) -> bool
+    requires automaton { IsAutomaton cfa.now }
+{
     match act {
         Act::Assume { .. } => true,
         _ => reads_written(cfa, act, e),
     }
 }
 
-/// Adds the expression, if it is not there.
-fn push_new(alloc: Global, es: &mut Vec<Expr>, e: Boxed<Expr>) -> Result<(), AllocError> {
-    if es.iter().any(|other| same_expr(e.get(), other)) {
-        return Ok(());
+/// Whether the act tests, or copies a cell or a number.
+fn is_plain(act: &Act, e: &Expr) -> bool {
+    match act {
+        Act::Assume { .. } => is_zero(e),
+        Act::Assign { value, .. } => size(value) <= 3,
+        Act::Skip | Act::Input { .. } | Act::Call { .. } | Act::Return { .. } => false,
     }
-    es.push(e.into_inner())?;
+}
+
+/// The cells that the expression or the act reads.
+fn needed_cells(alloc: Global, cfa: &Cfa, act: &Act, e: &Expr) -> Result<Vec<u32>, AllocError>
+    requires automaton { IsAutomaton cfa.now }
+{
+    let mut cells = Vec::new(alloc);
+    for cell in 0..cell_count(cfa) {
+        if needs(act, e, cell) {
+            cells.push(cell)?;
+        }
+    }
+    Ok(cells)
+}
+
+/// Copies of those that read no other cells than these.
+fn over(alloc: Global, cfa: &Cfa, es: &[Expr], cells: &[u32]) -> Result<Vec<Expr>, AllocError>
+    requires automaton { IsAutomaton cfa.now }
+{
+    let mut own = Vec::new(alloc);
+    for e in es {
+        if reads_only(cfa, e, cells) {
+            let e = copied(alloc, e)?;
+            own.push(e.into_inner())?;
+        }
+    }
+    Ok(own)
+}
+
+/// The values of the cells behind some run along the edges, or none where no run is found.
+fn values_behind(
+    alloc: Global,
+    cfa: &Cfa,
+    edges: &[u32],
+    limits: Limits,
+) -> Result<Vec<i128>, AllocError>
+    requires automaton { IsAutomaton cfa.now }
+    requires path { AllByRecursion (λ edge. edge < length cfa.now.edges) edges.now }
+{
+    let zero = constant(alloc, IntType::I32, 0)?;
+    let known = behind(alloc, cfa, edges, zero.get(), limits)?;
+    match known {
+        Behind::Unless(store) => Ok(store.values.into_vec()),
+        Behind::Always | Behind::Open => Ok(Vec::new(alloc)),
+    }
+}
+
+/// As few of these as are enough before the edge, of those that hold behind all runs up to it.
+fn by_tests(
+    alloc: Global,
+    cfa: &Cfa,
+    before: &[u32],
+    edge: u32,
+    tests: Vec<Expr>,
+    e: &Expr,
+    limits: Limits,
+) -> Result<Option<Vec<Expr>>, AllocError>
+    requires automaton { IsAutomaton cfa.now }
+    requires path { AllByRecursion (λ edge. edge < length cfa.now.edges) before.now }
+    requires edge { edge < length cfa.now.edges }
+{
+    if tests.is_empty() {
+        return Ok(None);
+    }
+    let known = holding(alloc, cfa, before, tests, limits)?;
+    if known.is_empty() {
+        return Ok(None);
+    }
+    fewest(alloc, cfa, &known, edge, e, limits)
+}
+
+/// As few as are enough before the edge of the tests, of bounds and of comparisons of two cells.
+fn by_bounds(
+    alloc: Global,
+    cfa: &Cfa,
+    before: &[u32],
+    edge: u32,
+    gathered: &Gathered,
+    e: &Expr,
+    limits: Limits,
+) -> Result<Option<Vec<Expr>>, AllocError>
+    requires automaton { IsAutomaton cfa.now }
+    requires path { AllByRecursion (λ edge. edge < length cfa.now.edges) before.now }
+    requires edge { edge < length cfa.now.edges }
+{
+    let act = &cfa.edge(edge).act;
+    let cells = needed_cells(alloc, cfa, act, e)?;
+    if MAX_BOUNDED < cells.len() {
+        return Ok(None);
+    }
+    let mut offered = over(alloc, cfa, &gathered.tests, &cells)?;
+    let values = values_behind(alloc, cfa, before, limits)?;
+    let mut found = bounds(alloc, cfa, &cells, &gathered.numbers, &values)?;
+    offered.append(&mut found)?;
+    let mut found = relations(alloc, cfa, &cells)?;
+    offered.append(&mut found)?;
+    by_tests(alloc, cfa, before, edge, offered, e, limits)
+}
+
+/// Expressions that are enough before the edge for this one to be nonzero after it, where these
+/// edges come before it; or None where none are known of. The edge does not do by itself.
+fn chosen(
+    alloc: Global,
+    cfa: &Cfa,
+    before: &[u32],
+    edge: u32,
+    gathered: &Gathered,
+    e: &Expr,
+    limits: Limits,
+) -> Result<Option<Vec<Expr>>, AllocError>
+    requires automaton { IsAutomaton cfa.now }
+    requires path { AllByRecursion (λ edge. edge < length cfa.now.edges) before.now }
+    requires edge { edge < length cfa.now.edges }
+{
+    let act = &cfa.edge(edge).act;
+    let carried = carried(alloc, act, e)?;
+    let small = carried_size(&carried);
+    if is_plain(act, e) && small <= MAX_SIZE {
+        return only(alloc, carried);
+    }
+    let cells = needed_cells(alloc, cfa, act, e)?;
+    let tests = over(alloc, cfa, &gathered.tests, &cells)?;
+    let found = by_tests(alloc, cfa, before, edge, tests, e, limits)?;
+    if found.is_some() {
+        return Ok(found);
+    }
+    if small <= SMALL_SIZE {
+        return only(alloc, carried);
+    }
+    let found = by_bounds(alloc, cfa, before, edge, gathered, e, limits)?;
+    if found.is_some() || MAX_SIZE < small {
+        return Ok(found);
+    }
+    only(alloc, carried)
+}
+
+/// How many nodes what is carried has, or the greatest `u64`.
+fn carried_size(carried: &Option<Boxed<Expr>>) -> u64 {
+    match carried {
+        Some(e) => size(e.get()),
+        None => u64::MAX,
+    }
+}
+
+/// The list of what is carried.
+fn only(alloc: Global, carried: Option<Boxed<Expr>>) -> Result<Option<Vec<Expr>>, AllocError> {
+    match carried {
+        Some(e) => alone(alloc, e),
+        None => Ok(None),
+    }
+}
+
+/// Expressions that are enough before the edge for this one to be nonzero after it, where these
+/// edges come before it; or None where none are known of.
+fn needed(
+    alloc: Global,
+    cfa: &Cfa,
+    before: &[u32],
+    edge: u32,
+    gathered: &Gathered,
+    e: &Expr,
+    limits: Limits,
+) -> Result<Option<Vec<Expr>>, AllocError>
+    requires automaton { IsAutomaton cfa.now }
+    requires path { AllByRecursion (λ edge. edge < length cfa.now.edges) before.now }
+    requires edge { edge < length cfa.now.edges }
+{
+    let act = &cfa.edge(edge).act;
+    if !may_change(cfa, act, e) {
+        return alone(alloc, copied(alloc, e)?);
+    }
+    let made = are_enough(alloc, cfa, &[], edge, e, limits)?;
+    if made {
+        return Ok(Some(Vec::new(alloc)));
+    }
+    if stays(alloc, cfa, before, act, e, limits)? {
+        return alone(alloc, copied(alloc, e)?);
+    }
+    chosen(alloc, cfa, before, edge, gathered, e, limits)
+}
+
+/// Whether the act is a test, and the expression is found to hold behind all runs before it.
+fn stays(
+    alloc: Global,
+    cfa: &Cfa,
+    before: &[u32],
+    act: &Act,
+    e: &Expr,
+    limits: Limits,
+) -> Result<bool, AllocError>
+    requires automaton { IsAutomaton cfa.now }
+    requires path { AllByRecursion (λ edge. edge < length cfa.now.edges) before.now }
+{
+    match act {
+        Act::Assume { .. } => match behind(alloc, cfa, before, e, limits)? {
+            Behind::Always => Ok(true),
+            Behind::Unless(_) | Behind::Open => Ok(false),
+        },
+        _ => Ok(false),
+    }
+}
+
+/// Adds those that are not there.
+fn push_all_new(alloc: Global, all: &mut Vec<Expr>, es: &[Expr]) -> Result<(), AllocError> {
+    for e in es {
+        push_new(alloc, all, copied(alloc, e)?)?;
+    }
     Ok(())
 }
 
 /// What is needed before the edge for all expressions to be nonzero behind it, or None where
-/// something is not known of, or is too large.
+/// something is not known of.
 fn all_needed(
     alloc: Global,
     cfa: &Cfa,
     before: &[u32],
     edge: u32,
+    gathered: &Gathered,
     es: &[Expr],
     limits: Limits,
 ) -> Result<Option<Vec<Expr>>, AllocError>
@@ -252,32 +283,29 @@ fn all_needed(
 {
     let mut all = Vec::new(alloc);
     for e in es {
-        let need = needed(alloc, cfa, before, edge, e, limits)?;
-        match need {
-            Need::Nothing => {}
-            Need::Nonzero(need) => {
-                if MAX_SIZE < size(need.get()) {
-                    return Ok(None);
-                }
-                push_new(alloc, &mut all, need)?;
-            }
-            Need::Unknown => return Ok(None),
+        let needed = needed(alloc, cfa, before, edge, gathered, e, limits)?;
+        match needed {
+            None => return Ok(None),
+            Some(own) => push_all_new(alloc, &mut all, &own)?,
         }
     }
     Ok(Some(all))
 }
 
-/// The expression that says that all are nonzero; the int 1 where there are none.
-fn conjunction(alloc: Global, es: &[Expr]) -> Result<Boxed<Expr>, AllocError> {
-    if es.is_empty() {
+/// The expression of a cut: the int 1 before the first edge.
+fn at_cut(alloc: Global, place: usize, wanted: &[Expr]) -> Result<Boxed<Expr>, AllocError> {
+    if place == 0 {
         return constant(alloc, IntType::I32, 1);
     }
-    let mut all = copied(alloc, &es[0])?;
-    for i in 1..es.len() {
-        let next = copied(alloc, &es[i])?;
-        all = both(alloc, all, next)?;
-    }
-    Ok(all)
+    conjunction(alloc, wanted)
+}
+
+/// The list of the int 0.
+fn zeros(alloc: Global) -> Result<Vec<Expr>, AllocError> {
+    let mut list = Vec::new(alloc);
+    let zero = constant(alloc, IntType::I32, 0)?;
+    list.push(zero.into_inner())?;
+    Ok(list)
 }
 
 /// An expression for each cut, the first of them 1 and the last 0, or None where none is known of.
@@ -290,25 +318,19 @@ pub(crate) fn choose(
     requires automaton { IsAutomaton cfa.now }
     requires path { AllByRecursion (λ edge. edge < length cfa.now.edges) edges.now }
 {
-    let mut wanted = Vec::new(alloc);
-    let zero = constant(alloc, IntType::I32, 0)?;
-    wanted.push(zero.into_inner())?;
-    let mut exprs = Vec::new(alloc);
-    let last = constant(alloc, IntType::I32, 0)?;
-    exprs.push(last.into_inner())?;
+    let gathered = gathered(alloc, cfa, edges)?;
+    let mut wanted = zeros(alloc)?;
+    let mut exprs = zeros(alloc)?;
     let mut place = edges.len();
     while 0 < place {
         place -= 1;
-        let found = all_needed(alloc, cfa, &edges[..place], edges[place], &wanted, limits)?;
+        let before = &edges[..place];
+        let found = all_needed(alloc, cfa, before, edges[place], &gathered, &wanted, limits)?;
         match found {
             None => return Ok(None),
             Some(all) => wanted = all,
         }
-        let expr = if place == 0 {
-            constant(alloc, IntType::I32, 1)?
-        } else {
-            conjunction(alloc, &wanted)?
-        };
+        let expr = at_cut(alloc, place, &wanted)?;
         exprs.push(expr.into_inner())?;
     }
     exprs.reverse();

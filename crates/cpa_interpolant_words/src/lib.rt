@@ -4,11 +4,17 @@
 #![tactic(auto)]
 
 mod asking;
+mod atoms;
+mod bounds;
+mod carrying;
 mod checking;
 mod choosing;
 mod forms;
+mod holding;
 mod looking;
+mod nodes;
 mod reading;
+mod selecting;
 
 pub use forms::{part_before, part_behind, weight_of};
 pub use looking::{Words, look};

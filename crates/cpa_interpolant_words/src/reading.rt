@@ -79,8 +79,7 @@ pub(crate) fn reads_shared(cfa: &Cfa, e: &Expr, edge: u32, behind: &[u32], f: &E
         → ReadsShared g.act (acts_along cfa.now behind.now) e.now f.now }
 {
     let act = &cfa.edge(edge).act;
-    let count = cfa.cells.len() as u32;
-    for cell in 0..count {
+    for cell in 0..cell_count(cfa) {
         if may_read(f, cell) && !is_shared(cfa, e, act, behind, cell) {
             return false;
         }
@@ -95,4 +94,42 @@ fn is_shared(cfa: &Cfa, e: &Expr, act: &Act, behind: &[u32], cell: u32) -> bool
 {
     (may_read(e, cell) || act_reads(act, cell) || act_writes(act, cell))
         && some_act_reads(cfa, behind, cell)
+}
+
+/// How many cells the automaton has.
+pub(crate) fn cell_count(cfa: &Cfa) -> u32
+    requires automaton { IsAutomaton cfa.now }
+    ensures { result ≡ length cfa.now.cells }
+{
+    let count = cfa.cells.len() as u32;
+    count
+}
+
+/// Whether the expression may read a cell that the act writes.
+pub(crate) fn reads_written(cfa: &Cfa, act: &Act, e: &Expr) -> bool
+    requires automaton { IsAutomaton cfa.now }
+{
+    for cell in 0..cell_count(cfa) {
+        if act_writes(act, cell) && may_read(e, cell) {
+            return true;
+        }
+    }
+    false
+}
+
+/// Whether the expression or the act may read the cell.
+pub(crate) fn needs(act: &Act, e: &Expr, cell: u32) -> bool {
+    may_read(e, cell) || act_reads(act, cell)
+}
+
+/// Whether the expression may read no other cells than these.
+pub(crate) fn reads_only(cfa: &Cfa, e: &Expr, cells: &[u32]) -> bool
+    requires automaton { IsAutomaton cfa.now }
+{
+    for cell in 0..cell_count(cfa) {
+        if may_read(e, cell) && !cells.contains(&cell) {
+            return false;
+        }
+    }
+    true
 }

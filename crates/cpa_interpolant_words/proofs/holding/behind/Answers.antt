@@ -6,7 +6,7 @@ use Rattle.cpa_form_rules.specs.Runs.{failing}
 use Rattle.cpa_folds.specs.Along.{acts_along}
 use Rattle.cpa_interpolant_rules.specs.lemmas.Keeping.{good_path}
 use Rattle.cpa_interpolant_words.proofs.Steps.{behind_asked}
-use Rattle.cpa_interpolant_words.proofs.choosing.holds_behind.Goals as goal
+use Rattle.cpa_interpolant_words.proofs.holding.behind.Goals as goal
 
 pub ask-requires : goal.ask-requires
 ask-requires c =
