@@ -1,5 +1,5 @@
 -- An expression that reads only cells that are shared, cell by cell.
-use Rattle.std.proofs.Common.{◌≡◌, ℕ, zero, suc, ◌<◌, IsTrue, List, [], ◌∷◌, length, get_or, arith}
+use Rattle.std.proofs.Common.{◌≡◌, ℕ, zero, suc, ◌+◌, ◌<◌, IsTrue, List, [], ◌∷◌, length, get_or, arith}
 use Rattle.std.proofs.Common.{Some, slice_get, sym, subst, inl, inr}
 use Rattle.std.specs.List.{AllByRecursion}
 use Rattle.std.proofs.lemmas.List.{length-map}
@@ -14,6 +14,7 @@ use Rattle.cpa_form_renaming.specs.Laws.{cells_behind_change_nothing}
 use Rattle.cpa_form_rules.specs.Reading.{ActReads}
 use Rattle.cpa_folds.specs.Along.{acts_along}
 use Rattle.cpa_interpolant_rules.specs.Stores.{SomeActReads}
+use Rattle.cpa_interpolant_words.specs.Words.{IsShared}
 use Rattle.cpa_interpolant_rules.specs.lemmas.Keeping.{edge_there}
 use Rattle.cpa_interpolant_rules.specs.lemmas.Paths.{acts_of}
 
@@ -37,3 +38,19 @@ some_there cfa (n ∷ ns) (suc i) g cell inside less at reads =
     let h = edge_there cfa n inside.0 in
     subst (λ (acts : List Act). SomeActReads acts cell) (sym (acts_of cfa n ns h.0 h.1))
     (inr (some_there cfa ns i g cell inside.1 (omega (arith, less)) at reads))
+
+-- one cell more
+pub next_cell : (f e : Expr) (a : Act) (acts : List Act) (i : ℕ)
+    → ((cell : ℕ) → cell < i → IsTrue (may_read f cell) → IsShared e a acts cell)
+    → (IsTrue (may_read f i) → IsShared e a acts i)
+    → (cell : ℕ) → cell < i + 1 → IsTrue (may_read f cell) → IsShared e a acts cell
+next_cell f e a acts i before own =
+    up_to (λ cell. IsTrue (may_read f cell) → IsShared e a acts cell) i before own
+  where
+    up_to : (P : ℕ → Type 0) (i : ℕ) → ((n : ℕ) → n < i → P n) → P i → (n : ℕ) → n < i + 1 → P n
+    up_to P zero before own zero less = own
+    up_to P zero before own (suc n) less = absurd (omega (arith, less))
+    up_to P (suc i) before own zero less = before zero (omega arith)
+    up_to P (suc i) before own (suc n) less =
+        up_to (λ m. P (suc m)) i (λ m low. before (suc m) (omega (arith, low))) own n
+        (omega (arith, less))

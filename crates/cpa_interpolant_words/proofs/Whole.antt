@@ -1,8 +1,9 @@
 -- Steps of which the last leads to 0 are interpolants of the path.
-use Rattle.std.proofs.Common.{◌≡◌, ℕ, zero, suc, ◌+◌, ◌-◌, ◌<◌, ◌≤◌, ◌^◌, min, List, [], ◌∷◌, length}
+use Rattle.std.proofs.Common.{◌≡◌, ℕ, zero, suc, ◌+◌, ◌-◌, ◌<◌, ◌≤◌, ◌^◌, min, List, [], ◌∷◌, length, false}
 use Rattle.std.proofs.Common.{Some, slice_get, map, sum, refl, sym, ap, ◌∙◌, subst, arith, get_or, drop}
 use Rattle.std.specs.List.{AllByRecursion}
 use Rattle.std.proofs.lemmas.List.{drop_more}
+use Rattle.std.proofs.lemmas.List.Sums.{sum_by-cons, sum-map}
 use Rattle.cpa_expr.specs.declared.tree.Expr.{Expr}
 use Rattle.cpa_model.specs.declared.program.Cell.{Cell}
 use Rattle.cpa_model.specs.declared.automaton.Act.{Act}
@@ -20,9 +21,9 @@ use Rattle.cpa_interpolant_rules.specs.Interpolants.{AreNext, LeadOn, last_of, o
 use Rattle.cpa_interpolant_rules.specs.Interpolants.{zero as nothing}
 use Rattle.cpa_interpolant_rules.specs.Laws.{InterpolantsLeaveNoRun}
 use Rattle.cpa_interpolant_rules.specs.Parts.{added_behind, behind_cut}
-use Rattle.cpa_interpolant_rules.specs.Found.{AreLight, AreFound}
+use Rattle.cpa_interpolant_rules.specs.Found.{weight_at, AreLight, IsLight, AreFound}
 use Rattle.cpa_interpolant_rules.specs.lemmas.Taking.{all_taken}
-use Rattle.cpa_interpolant_rules.specs.lemmas.Keeping.{AreLaws, good_path}
+use Rattle.cpa_interpolant_rules.specs.lemmas.Keeping.{AreLaws, edge_there, good_path}
 use Rattle.cpa_interpolant_rules.specs.lemmas.Paths.{last_at, acts_of, acts_long, rest_in}
 use Rattle.cpa_interpolant_rules.specs.lemmas.Paths.{one_is_expr}
 use Rattle.cpa_interpolant_words.specs.Words.{IsStep, AreSteps, AreStepsIn}
@@ -105,10 +106,17 @@ weighs_more sums cfa a acts is act are =
     let rest = sum (map (added_weight places) (added_behind acts)) in
     let all : AllByRecursion (IsAddedOf cfa) (added_behind acts) = all_taken cfa acts are in
     sums cfa false (added_behind (a ∷ acts)) is (act, all)
+    ∙ (ap (λ n. min n (2 ^ 64 - 1)) (one_more (added_weight places) (taken a) (added_behind acts))
     ∙ (capped (act_weight a) rest (2 ^ 64 - 1)
     ∙ ap (λ n. min (min (act_weight a) (2 ^ 64 - 1) + n) (2 ^ 64 - 1))
-    (sym (sums cfa false (added_behind acts) is all)))
+    (sym (sums cfa false (added_behind acts) is all))))
   where
+    one_more : (f : Added → ℕ) (x : Added) (xs : List Added)
+        → sum (map f (x ∷ xs)) ≡ f x + sum (map f xs)
+    one_more f x xs =
+        sum-map f (x ∷ xs)
+        ∙ (sum_by-cons f x xs ∙ ap (λ n. f x + n) (sym (sum-map f xs)))
+
     capped : (n m top : ℕ) → min (n + m) top ≡ min (min n top + min m top) top
     capped n m top = omega arith
 
@@ -166,3 +174,21 @@ weight_back sums cfa laws edges p w v g inside less at was is =
     (sym (acts_of cfa (get_or edges p 0) ns g at))
     ∙ ap (λ ms. (behind_cut cfa.cells (acts_along cfa ms)).weight)
     (sym (drop_more edges p 0 less)))))
+
+-- the first cut of a path, by the weight of its parts
+pub light_first : (cfa : Cfa) (gates : ℕ) (path : List ℕ)
+    → AllByRecursion (λ n. n < length cfa.edges) path
+    → ((g : Edge) → slice_get cfa.edges (get_or path 0 0) ≡ Some g
+    → weight_at cfa.cells one g.act (acts_along cfa (drop 1 path)) ≤ gates)
+    → IsLight cfa.cells gates (acts_along cfa path)
+light_first cfa gates [] inside light = tt
+light_first cfa gates (n ∷ ns) inside light =
+    let g = edge_there cfa n inside.0 in
+    subst (λ (acts : List Act). IsLight cfa.cells gates acts) (sym (acts_of cfa n ns g.0 g.1))
+    (light g.0 g.1)
+
+-- behind the last edge nothing weighs
+pub weighs_none : (cfa : Cfa) (edges : List ℕ)
+    → 0 ≡ (behind_cut cfa.cells (acts_along cfa (drop (length edges) edges))).weight
+weighs_none cfa [] = refl
+weighs_none cfa (n ∷ ns) = weighs_none cfa ns

@@ -130,7 +130,11 @@ fn gather(alloc: Global, gathered: &mut Gathered, act: &Act) -> Result<(), Alloc
 }
 
 /// What stands in the edges of a path, from its last edge on.
-pub(crate) fn gathered(alloc: Global, cfa: &Cfa, edges: &[u32]) -> Result<Gathered, AllocError>
+pub(crate) fn gathered_along(
+    alloc: Global,
+    cfa: &Cfa,
+    edges: &[u32],
+) -> Result<Gathered, AllocError>
     requires path { AllByRecursion (λ edge. edge < length cfa.now.edges) edges.now }
 {
     let mut gathered = Gathered {

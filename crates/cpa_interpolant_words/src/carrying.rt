@@ -3,6 +3,7 @@
 
 use crate::checking::is_zero;
 use crate::nodes::{assumed, may_trap};
+use crate::storing::{Write, before_write};
 use cpa_expr::{Expr, copied, either, replace_cell};
 use cpa_form_renaming::trap_test;
 use cpa_ints::Boxed;
@@ -20,12 +21,7 @@ fn total(alloc: Global, e: Boxed<Expr>) -> Result<Boxed<Expr>, AllocError> {
 }
 
 /// That the test has not the truth, or that the expression is nonzero.
-fn unless(
-    alloc: Global,
-    test: &Expr,
-    holds: bool,
-    e: &Expr,
-) -> Result<Boxed<Expr>, AllocError> {
+fn unless(alloc: Global, test: &Expr, holds: bool, e: &Expr) -> Result<Boxed<Expr>, AllocError> {
     let other = assumed(alloc, test, !holds)?;
     let other = total(alloc, other)?;
     if is_zero(e) {
@@ -53,6 +49,21 @@ pub(crate) fn carried(
             let replaced = Boxed::new(alloc, replace_cell(alloc, e, *base, value)?)?;
             Ok(Some(total(alloc, replaced)?))
         }
-        _ => Ok(None),
+        Act::Assign {
+            base,
+            len,
+            index,
+            value,
+        } => {
+            let write = Write {
+                base: *base,
+                len: *len,
+                index,
+                value,
+            };
+            let before = before_write(alloc, e, write)?;
+            Ok(Some(total(alloc, before)?))
+        }
+        Act::Input { .. } | Act::Skip | Act::Call { .. } | Act::Return { .. } => Ok(None),
     }
 }

@@ -10,14 +10,15 @@ ghost use Rattle.std.specs.List.{AllByRecursion};
 ghost use Rattle.cpa_model.specs.Automata.{IsAutomaton};
 
 use crate::asking::Limits;
-use crate::atoms::{Gathered, gathered};
+use crate::atoms::{Gathered, gathered_along};
 use crate::bounds::{bounds, relations};
 use crate::carrying::carried;
 use crate::checking::is_zero;
-use crate::holding::{Behind, behind, holding};
+use crate::holding::{Known, behind, holding};
 use crate::nodes::{conjunction, push_new};
-use crate::reading::{cell_count, needs, reads_only, reads_written};
+use crate::reading::{cell_count, cover, needs, reads_only, reads_written};
 use crate::selecting::{are_enough, fewest};
+use crate::slicing::sliced;
 use cpa_expr::{Expr, constant, copied, size};
 use cpa_ints::{Boxed, IntType};
 use cpa_model::{Act, Cfa};
@@ -98,8 +99,8 @@ fn values_behind(
     let zero = constant(alloc, IntType::I32, 0)?;
     let known = behind(alloc, cfa, edges, zero.get(), limits)?;
     match known {
-        Behind::Unless(store) => Ok(store.values.into_vec()),
-        Behind::Always | Behind::Open => Ok(Vec::new(alloc)),
+        Known::Unless(store) => Ok(store.values.into_vec()),
+        Known::Always | Known::Open => Ok(Vec::new(alloc)),
     }
 }
 
@@ -124,7 +125,24 @@ fn by_tests(
     if known.is_empty() {
         return Ok(None);
     }
-    fewest(alloc, cfa, &known, edge, e, limits)
+    let found = fewest(alloc, cfa, &known, edge, e, limits)?;
+    match found {
+        Some(few) => Ok(covering(cfa, edge, few, e)),
+        None => Ok(None),
+    }
+}
+
+/// The expressions, where they speak of each cell that this one reads after the edge, or the edge
+/// does.
+fn covering(cfa: &Cfa, edge: u32, few: Vec<Expr>, e: &Expr) -> Option<Vec<Expr>>
+    requires automaton { IsAutomaton cfa.now }
+    requires edge { edge < length cfa.now.edges }
+{
+    if cover(cfa, &few, &cfa.edge(edge).act, e) {
+        Some(few)
+    } else {
+        None
+    }
 }
 
 /// As few as are enough before the edge of the tests, of bounds and of comparisons of two cells.
@@ -228,13 +246,17 @@ fn needed(
         return alone(alloc, copied(alloc, e)?);
     }
     let made = are_enough(alloc, cfa, &[], edge, e, limits)?;
-    if made {
+    if made && cover(cfa, &[], act, e) {
         return Ok(Some(Vec::new(alloc)));
     }
-    if stays(alloc, cfa, before, act, e, limits)? {
+    let cells = needed_cells(alloc, cfa, act, e)?;
+    let sliced = sliced(alloc, cfa, before, &cells)?;
+    let related = if is_zero(e) { before } else { &sliced };
+    let stays = stays(alloc, cfa, related, act, e, limits)?;
+    if stays {
         return alone(alloc, copied(alloc, e)?);
     }
-    chosen(alloc, cfa, before, edge, gathered, e, limits)
+    chosen(alloc, cfa, related, edge, gathered, e, limits)
 }
 
 /// Whether the act is a test, and the expression is found to hold behind all runs before it.
@@ -251,8 +273,8 @@ fn stays(
 {
     match act {
         Act::Assume { .. } => match behind(alloc, cfa, before, e, limits)? {
-            Behind::Always => Ok(true),
-            Behind::Unless(_) | Behind::Open => Ok(false),
+            Known::Always => Ok(true),
+            Known::Unless(_) | Known::Open => Ok(false),
         },
         _ => Ok(false),
     }
@@ -318,7 +340,7 @@ pub(crate) fn choose(
     requires automaton { IsAutomaton cfa.now }
     requires path { AllByRecursion (λ edge. edge < length cfa.now.edges) edges.now }
 {
-    let gathered = gathered(alloc, cfa, edges)?;
+    let gathered = gathered_along(alloc, cfa, edges)?;
     let mut wanted = zeros(alloc)?;
     let mut exprs = zeros(alloc)?;
     let mut place = edges.len();

@@ -24,12 +24,7 @@ fn told(alloc: Global, expr: &Expr) -> Result<Elem, AllocError>
 }
 
 /// The part before a cut: the expression is nonzero, and then the edge is taken.
-pub fn part_before(
-    alloc: Global,
-    cfa: &Cfa,
-    expr: &Expr,
-    edge: u32,
-) -> Result<EdgeForm, AllocError>
+pub fn part_before(alloc: Global, cfa: &Cfa, expr: &Expr, edge: u32) -> Result<EdgeForm, AllocError>
     requires { edge < length cfa.now.edges }
     ensures { (g : AnEdge) → slice_get cfa.now.edges edge ≡ Some g
         → IfOk result (λ form. form ≡ before_cut cfa.now.cells expr.now g.act) }

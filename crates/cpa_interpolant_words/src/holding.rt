@@ -18,7 +18,7 @@ const MAX_RUNS: u32 = 40;
 
 /// What is known of an expression behind all runs.
 #[derive(Drop)]
-pub(crate) enum Behind {
+pub(crate) enum Known {
     /// It is nonzero.
     Always,
     /// It is not behind a run that ends in this store.
@@ -34,12 +34,12 @@ pub(crate) fn behind(
     edges: &[u32],
     e: &Expr,
     limits: Limits,
-) -> Result<Behind, AllocError>
+) -> Result<Known, AllocError>
     requires automaton { IsAutomaton cfa.now }
     requires path { AllByRecursion (λ edge. edge < length cfa.now.edges) edges.now }
 {
     if !is_expr(e, cfa.cells.as_slice()) {
-        return Ok(Behind::Open);
+        return Ok(Known::Open);
     }
     forms_are_runs();
     adding_goes_on();
@@ -50,12 +50,12 @@ pub(crate) fn behind(
     form.fails_now(&failing)?;
     let asked = ask(alloc, &form, limits)?;
     match asked {
-        Asked::Never => Ok(Behind::Always),
+        Asked::Never => Ok(Known::Always),
         Asked::Sometimes(store) => {
             let stores = form.stores_of(&store)?;
-            Ok(Behind::Unless(stores.1))
+            Ok(Known::Unless(stores.1))
         }
-        Asked::Open => Ok(Behind::Open),
+        Asked::Open => Ok(Known::Open),
     }
 }
 
@@ -92,9 +92,9 @@ pub(crate) fn holding(
         let all = conjunction(alloc, &left)?;
         let known = behind(alloc, cfa, edges, all.get(), limits)?;
         match known {
-            Behind::Always => return Ok(left),
-            Behind::Unless(store) => keep_nonzero(&mut left, &store),
-            Behind::Open => return Ok(Vec::new(alloc)),
+            Known::Always => return Ok(left),
+            Known::Unless(store) => keep_nonzero(&mut left, &store),
+            Known::Open => return Ok(Vec::new(alloc)),
         }
     }
     Ok(Vec::new(alloc))

@@ -15,6 +15,8 @@ mod looking;
 mod nodes;
 mod reading;
 mod selecting;
+mod slicing;
+mod storing;
 
 pub use forms::{part_before, part_behind, weight_of};
 pub use looking::{Words, look};

@@ -1,11 +1,12 @@
 //! Interpolants along a path in the program's own words, or a model of the path's query, by
 //! `IsFound` of specs/Words. Proved with `proofs/Whole.antt`.
 
-ghost use Rattle.std.specs.Prelude.{◌<◌, length, IfOk, IsTrue};
+ghost use Rattle.std.specs.Prelude.{◌≡◌, ◌<◌, length, IfOk, IsTrue};
 ghost use Rattle.std.specs.List.{AllByRecursion};
 ghost use Rattle.cpa_model.specs.Automata.{IsAutomaton};
 ghost use Rattle.cpa_folds.specs.Along.{acts_along};
 ghost use Rattle.cpa_interpolant_rules.specs.Found.{IsLight};
+ghost use Rattle.cpa_interpolant_rules.specs.Interpolants.{one};
 ghost use Rattle.cpa_interpolant_words.specs.Words.{IsFound};
 
 use crate::asking::{Asked, Limits, ask};
@@ -14,7 +15,7 @@ use crate::choosing::choose;
 use crate::forms::{part_before, part_behind, weight_of};
 use cpa_expr::{Expr, Store, constant};
 use cpa_form_rules::forms_are_runs;
-use cpa_ints::IntType;
+use cpa_ints::{Boxed, IntType};
 use cpa_model::{Cfa, edges_are_sound, steps_keep_states};
 use std::alloc::{AllocError, Global};
 
@@ -32,6 +33,13 @@ pub enum Words {
     Open,
 }
 
+/// The int 1.
+fn int_one(alloc: Global) -> Result<Boxed<Expr>, AllocError>
+    ensures { IfOk result (λ e. e ≡ one) }
+{
+    constant(alloc, IntType::I32, 1)
+}
+
 /// Whether the first cut is as light as is allowed.
 fn is_light(alloc: Global, cfa: &Cfa, path: &[u32], gates: u64) -> Result<bool, AllocError>
     requires path { AllByRecursion (λ edge. edge < length cfa.now.edges) path.now }
@@ -41,7 +49,7 @@ fn is_light(alloc: Global, cfa: &Cfa, path: &[u32], gates: u64) -> Result<bool, 
     if path.is_empty() {
         return Ok(false);
     }
-    let one = constant(alloc, IntType::I32, 1)?;
+    let one = int_one(alloc)?;
     let before = part_before(alloc, cfa, one.get(), path[0])?;
     let behind = part_behind(alloc, cfa, &path[1..])?;
     Ok(weight_of(&before, &behind) <= gates)

@@ -4,7 +4,7 @@
 
 ghost use Rattle.std.specs.Prelude.{◌≡◌, ◌<◌, length, slice_get, Some, IsTrue};
 ghost use Rattle.std.specs.List.{AllByRecursion};
-ghost use Rattle.cpa_expr.specs.Cells.{is_within};
+ghost use Rattle.cpa_expr.specs.Cells.{is_within, may_read};
 ghost use Rattle.cpa_model.specs.declared.automaton.Edge.{Edge as AnEdge};
 ghost use Rattle.cpa_model.specs.Automata.{IsAutomaton};
 ghost use Rattle.cpa_model.specs.Expressions.{IsExpr};
@@ -25,7 +25,7 @@ pub(crate) fn is_within(base: u32, len: u32, cell: u32) -> bool
 }
 
 /// Whether an edge with this act reads the cell.
-fn act_reads(act: &Act, cell: u32) -> bool
+pub(crate) fn act_reads(act: &Act, cell: u32) -> bool
     ensures { IsTrue result → ActReads act.now cell }
 {
     match act {
@@ -80,11 +80,20 @@ pub(crate) fn reads_shared(cfa: &Cfa, e: &Expr, edge: u32, behind: &[u32], f: &E
 {
     let act = &cfa.edge(edge).act;
     for cell in 0..cell_count(cfa) {
-        if may_read(f, cell) && !is_shared(cfa, e, act, behind, cell) {
+        if !is_fine(cfa, e, act, behind, f, cell) {
             return false;
         }
     }
     true
+}
+
+/// Whether the cell is shared, if `f` reads it.
+fn is_fine(cfa: &Cfa, e: &Expr, act: &Act, behind: &[u32], f: &Expr, cell: u32) -> bool
+    requires behind { AllByRecursion (λ edge. edge < length cfa.now.edges) behind.now }
+    ensures { IsTrue result → IsTrue (may_read f.now cell)
+        → IsShared e.now act.now (acts_along cfa.now behind.now) cell }
+{
+    !may_read(f, cell) || is_shared(cfa, e, act, behind, cell)
 }
 
 /// Whether `e` or the act reads or writes the cell, and one of the edges `behind` reads it.
@@ -128,6 +137,24 @@ pub(crate) fn reads_only(cfa: &Cfa, e: &Expr, cells: &[u32]) -> bool
 {
     for cell in 0..cell_count(cfa) {
         if may_read(e, cell) && !cells.contains(&cell) {
+            return false;
+        }
+    }
+    true
+}
+
+/// Whether the cell is read by some of these, or read or written by the act.
+fn is_touched(es: &[Expr], act: &Act, cell: u32) -> bool {
+    act_reads(act, cell) || act_writes(act, cell) || es.iter().any(|e| may_read(e, cell))
+}
+
+/// Whether each cell that the expression may read is read by some of these, or read or written by
+/// the act.
+pub(crate) fn cover(cfa: &Cfa, es: &[Expr], act: &Act, e: &Expr) -> bool
+    requires automaton { IsAutomaton cfa.now }
+{
+    for cell in 0..cell_count(cfa) {
+        if may_read(e, cell) && !is_touched(es, act, cell) {
             return false;
         }
     }

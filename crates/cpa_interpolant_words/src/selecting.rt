@@ -11,12 +11,7 @@ use cpa_model::{Cfa, is_expr};
 use std::alloc::{AllocError, Global};
 
 /// Copies of the expressions but for those at the places from `first` up to `end`.
-fn all_but(
-    alloc: Global,
-    es: &[Expr],
-    first: usize,
-    end: usize,
-) -> Result<Vec<Expr>, AllocError> {
+fn all_but(alloc: Global, es: &[Expr], first: usize, end: usize) -> Result<Vec<Expr>, AllocError> {
     let mut others = Vec::new(alloc);
     for i in 0..es.len() {
         if i < first || end <= i {

@@ -5,6 +5,7 @@ use Rattle.cpa_interpolant_words.proofs.checking.are_interpolants.Goals as goal
 pub returns : goal.returns
 returns c = λ yes.
     found_of c.interpolants_leave_no_run.ensures c.args.cfa.now c.args.limits.gates
-    c.args.edges.now c.args.exprs.now c.index-first.result.now c.index-last.result.now
-    c.requires.path c.if.false c.index-first.ensures c.is_one.ensures c.index-last.ensures
-    c.is_zero.ensures (c.in_ok-found.ensures yes)
+    c.args.edges.now c.args.exprs.now c.index-exprs-0.result c.index-exprs-edges.result
+    c.requires.path c.if-exprs-edges.false c.index-exprs-0.is
+    (c.is_one.ensures c.if-not-is_one.false) c.index-exprs-edges.is
+    (c.is_zero.ensures c.if-not-is_zero.false) (c.in_ok-found.ensures yes)

@@ -1,5 +1,5 @@
 -- The query is the path's.
-use Rattle.std.proofs.Common.{sym, subst}
+use Rattle.std.proofs.Common.{sym, subst, false}
 use Rattle.cpa_query.specs.Queries.{IsQuery, IsModel}
 use Rattle.cpa_form_rules.specs.Forms.{Form}
 use Rattle.cpa_form_rules.specs.Laws.{IsFormOf}
@@ -28,6 +28,6 @@ returns-in-Sometimes c =
     let values = c.in-Sometimes.store.values in
     let model =
     subst (IsAsked c.in_ok-form.form.query) c.in-Sometimes.is c.in_ok-asked.ensures in (
-      c.in_ok-light.ensures c.if-light.true,
+      c.in_ok-light.ensures c.if-not-light.false,
       subst (λ (form : Form). IsModel form.query values) c.in_ok-form.ensures model,
     )
