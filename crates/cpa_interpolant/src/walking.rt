@@ -108,7 +108,8 @@ fn in_words(
     ensures { IfOk result (λ found. IfSome found
         (IsAlong cfa.now (acts_along cfa.now path.now) learnt gates)) }
 {
-    match look(alloc, cfa, path, learnt, gates)? {
+    let found = look(alloc, cfa, path, learnt, gates)?;
+    match found {
         Words::Cuts(exprs) => Ok(Some(Along::Cuts { exprs })),
         Words::Model(store) => Ok(Some(Along::Model { store })),
         Words::Open => Ok(None),
@@ -131,7 +132,8 @@ pub fn along(
         (IsAlong cfa.now (acts_along cfa.now path.now.edges) learnt gates) }
 {
     let edges = path.edges.as_slice();
-    if let Some(along) = in_words(alloc, cfa, edges, learnt, gates)? {
+    let worded = in_words(alloc, cfa, edges, learnt, gates)?;
+    if let Some(along) = worded {
         return Ok(along);
     }
     let mut exprs = first(alloc)?;
@@ -172,7 +174,8 @@ pub fn along_par<R: Threads + Sync, G: Gate>(
         (IsAlong cfa.now (acts_along cfa.now path.now.edges) learnt gates) }
 {
     let edges = path.edges.as_slice();
-    if let Some(along) = in_words(alloc, cfa, edges, learnt, gates)? {
+    let worded = in_words(alloc, cfa, edges, learnt, gates)?;
+    if let Some(along) = worded {
         return Ok(along);
     }
     let mut exprs = first(alloc)?;

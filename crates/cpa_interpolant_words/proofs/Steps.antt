@@ -1,6 +1,6 @@
 -- Where the queries of one edge have no model, each step leads on; where that of a trap has none,
 -- no store of the cells makes the expression trap.
-use Rattle.std.proofs.Common.{◌≡◌, ℤ, true, false, List, [], ◌∷◌, ◌++◌, refl, sym, subst}
+use Rattle.std.proofs.Common.{true, false, List, [], ◌∷◌, ◌++◌, refl, sym, subst}
 use Rattle.std.proofs.Common.{append-nil}
 use Rattle.std.specs.Prelude.{◌⊎◌, IsSome}
 use Rattle.std.specs.List.{AllByRecursion}
@@ -19,7 +19,6 @@ use Rattle.cpa_form_rules.specs.Laws.{FormsAreRuns, IsAddedOf, IsFormOf}
 use Rattle.cpa_form_rules.specs.Additions.{AddingGoesOn}
 use Rattle.cpa_form_rules.specs.Stores.{FailingIsNotHolding, StepsTakeInputs}
 use Rattle.cpa_solver.specs.Decisions.{HasNoModel}
-use Rattle.cpa_interpolant_rules.specs.Stores.{IsStore, StepsBy}
 use Rattle.cpa_interpolant_rules.specs.Interpolants.{LeadsTo, NeverTraps}
 use Rattle.cpa_interpolant_rules.specs.Parts.{told, added_behind, behind_cut}
 use Rattle.cpa_interpolant_rules.specs.lemmas.Taking.{all_taken, has_value}

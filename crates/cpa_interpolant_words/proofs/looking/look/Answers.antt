@@ -2,7 +2,6 @@
 use Rattle.std.proofs.Common.{sym, subst, false}
 use Rattle.cpa_query.specs.Queries.{IsQuery, IsModel}
 use Rattle.cpa_form_rules.specs.Forms.{Form}
-use Rattle.cpa_form_rules.specs.Laws.{IsFormOf}
 use Rattle.cpa_folds.specs.Along.{acts_along}
 use Rattle.cpa_interpolant_rules.specs.Parts.{added_behind}
 use Rattle.cpa_interpolant_rules.specs.lemmas.Keeping.{good_path}

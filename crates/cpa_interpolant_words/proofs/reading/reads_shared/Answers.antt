@@ -1,5 +1,5 @@
 -- The cells up to the first that is read and not shared.
-use Rattle.std.proofs.Common.{ℕ, Option, ap, ◌∙◌, sym, subst, arith}
+use Rattle.std.proofs.Common.{Option, ap, ◌∙◌, sym, subst, arith}
 use Rattle.std.specs.Prelude.{unwrap_or}
 use Rattle.cpa_model.specs.declared.automaton.Edge.{Edge}
 use Rattle.cpa_folds.specs.Along.{acts_along}
