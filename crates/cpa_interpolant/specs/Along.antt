@@ -36,9 +36,9 @@ pub record Stops (cfa : Cfa) (learnt gates : ℕ) (acts : List Act) (exprs : Lis
   pub next : drop (length are.behind) acts ≡ act ∷ behind
   pub stops : stop (last_of one are.behind) act behind
 
--- Interpolants of the path, by whatever they were found; a store that is a model of the path's query
--- from any store; or interpolants up to a cut, where all lines are written that are allowed, whose
--- two parts weigh more than is allowed, or whose expression is too large.
+-- Interpolants of the path, by whatever they were found; a store that is a model of the path's
+-- query from any store; or interpolants up to a cut, where all lines are written that are allowed,
+-- whose two parts weigh more than is allowed, or whose expression is too large.
 abbrev pub IsAlong : Cfa → List Act → ℕ → ℕ → Along → Type 0
 IsAlong cfa acts learnt gates (Cuts exprs) = AreFound cfa.cells gates acts exprs.items
 IsAlong cfa acts learnt gates (Model store) =

@@ -127,7 +127,8 @@ module _ (cfa : Cfa) (e : Expr) (edge : ℕ) (behind : List ℕ) (A B : Form)
       (formula_of cfa.cells form other).clauses) g is (asked.below cfa e g.act acts (cut_of g is))
 
   module _ (g : Edge) (is : slice_get cfa.edges edge ≡ Some g) where
-    pub weight_is : (weight : ℕ) → weight ≡ weight_of A B → weight ≡ weight_at cfa.cells e g.act acts
+    pub weight_is : (weight : ℕ) → weight ≡ weight_of A B
+        → weight ≡ weight_at cfa.cells e g.act acts
     weight_is weight own =
         own ∙ (ap (λ form. weight_of form B) (at.before g is)
         ∙ ap (weight_of (before_cut cfa.cells e g.act)) at.after)

@@ -1,6 +1,7 @@
 -- Steps of which the last leads to 0 are interpolants of the path.
 use Rattle.std.proofs.Common.{◌≡◌, ℕ, ◌+◌, ◌-◌, ◌<◌, ◌≤◌, ◌^◌, min, List, [], ◌∷◌, length, false}
-use Rattle.std.proofs.Common.{Some, slice_get, map, sum, refl, sym, ap, ◌∙◌, subst, arith, get_or, drop}
+use Rattle.std.proofs.Common.{Some, slice_get, map, sum, refl, sym, ap, ◌∙◌, subst, arith, get_or}
+use Rattle.std.proofs.Common.{drop}
 use Rattle.std.specs.List.{AllByRecursion}
 use Rattle.std.proofs.lemmas.List.{drop_more}
 use Rattle.std.proofs.lemmas.List.Sums.{sum_by-cons, sum-map}

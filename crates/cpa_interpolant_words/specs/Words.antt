@@ -1,6 +1,7 @@
 -- What comes of looking for interpolants along a path in the program's own words (this project's
 -- own).
-use Rattle.std.specs.Prelude.{◌≡◌, ℕ, ◌≤◌, ⊤, ◌⊎◌, min, ◌+◌, ◌-◌, ◌^◌, Bool, true, false, IsTrue, List, [], ◌∷◌}
+use Rattle.std.specs.Prelude.{◌≡◌, ℕ, ◌≤◌, ⊤, ◌⊎◌, min, ◌+◌, ◌-◌, ◌^◌, Bool, true, false, IsTrue}
+use Rattle.std.specs.Prelude.{List, [], ◌∷◌}
 use Rattle.cpa_expr.specs.declared.tree.Expr.{Expr}
 use Rattle.cpa_expr.specs.Cells.{may_read}
 use Rattle.cpa_facts.specs.declared.fact.Fact.TheVariants.{Truth}
@@ -31,7 +32,8 @@ IsAsked q asked.Never = HasNoModel q
 IsAsked q (asked.Sometimes store) = IsModel q store.values
 IsAsked q asked.Open = ⊤
 
--- the expression before the edge, or the edge, reads or writes the cell, and an edge behind reads it
+-- the expression before the edge, or the edge, reads or writes the cell, and an edge behind reads
+-- it
 abbrev pub IsShared : Expr → Act → List Act → ℕ → Type 0
 IsShared e a behind cell =
     (IsTrue (may_read e cell) ⊎ (ActReads a cell ⊎ ActWrites a cell)) × SomeActReads behind cell

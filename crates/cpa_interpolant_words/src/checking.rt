@@ -183,7 +183,8 @@ fn are_steps(
     requires automaton { IsAutomaton cfa.now }
     requires path { AllByRecursion (λ edge. edge < length cfa.now.edges) edges.now }
     requires count { length exprs.now ≡ length edges.now + 1 }
-    ensures { IfOk result (λ yes. IsTrue yes → AreStepsIn cfa.now limits.gates edges.now exprs.now) }
+    ensures { IfOk result (λ yes. IsTrue yes
+        → AreStepsIn cfa.now limits.gates edges.now exprs.now) }
 {
     weights_are_sums();
     edges_are_sound();

@@ -38,8 +38,9 @@ loop-place-preserved c =
     c.index-exprs-place-in-loop-place.result) (whole_rest edges (p + 1))
     (c.in_ok-found.ensures g c.edge.ensures c.if-not-found.false) in
     record {
-      steps = one_back cfa gates edges exprs p g c.index-exprs-place.result c.index-exprs-place-in-loop-place.result less
-          c.requires.count c.edge.ensures c.index-exprs-place.is c.index-exprs-place-in-loop-place.is step
+      steps = one_back cfa gates edges exprs p g c.index-exprs-place.result
+          c.index-exprs-place-in-loop-place.result less c.requires.count c.edge.ensures
+          c.index-exprs-place.is c.index-exprs-place-in-loop-place.is step
           (subst (λ n. AreStepsIn cfa gates (drop n edges) (drop n exprs)) next
           c.loop-place.invariant.steps);
       weighs = weight_back c.weights_are_sums.ensures cfa laws edges p c.loop-place.weight
