@@ -29,9 +29,11 @@ use Rattle.cpa_interpolant_rules.specs.Interpolants.{zero as nothing}
 use Rattle.cpa_interpolant_rules.specs.Laws.{interpolants_leave_no_run}
 use Rattle.cpa_interpolant_answers.specs.declared.answer.Answer.{Answer}
 use Rattle.cpa_interpolant_answers.specs.declared.answer.Answer.TheVariants as answer
-use Rattle.cpa_interpolant_answers.specs.Answers.{weight_at, IsAnswer, IsNextBehind, HasRun}
-use Rattle.cpa_interpolant_answers.specs.lemmas.Keeping.{edge_there, edge_in}
-use Rattle.cpa_interpolant.specs.Along.{AreDone, IsLight, AreFound, Stops}
+use Rattle.cpa_interpolant_rules.specs.Found.{weight_at, AreLight, IsLight, AreFound}
+use Rattle.cpa_interpolant_answers.specs.Answers.{IsAnswer, IsNextBehind, HasRun}
+use Rattle.cpa_interpolant_rules.specs.lemmas.Keeping.{edge_there, edge_in}
+use Rattle.cpa_interpolant_rules.specs.lemmas.Paths.{last_at, acts_of, acts_long}
+use Rattle.cpa_interpolant.specs.Along.{AreDone, Stops}
 use Rattle.cpa_interpolant.specs.Walked.{AreBehind, IsWalked, IsNextAnswer, RunsIfRun}
 
 -- ---- lists
@@ -40,27 +42,12 @@ last_more : (e : Expr) (fs : List Expr) (f : Expr) → last_of e (fs ++ f ∷ []
 last_more e [] f = refl
 last_more e (g ∷ fs) f = last_more g fs f
 
-last_at : (e d : Expr) (fs : List Expr) → get_or (e ∷ fs) (length fs) d ≡ last_of e fs
-last_at e d [] = refl
-last_at e d (f ∷ fs) = last_at f d fs
-
 pub one_more : (exprs more : List Expr) (f : Expr) → more ≡ exprs ++ f ∷ []
     → length more ≡ suc (length exprs)
 one_more exprs more f is =
     let long = ap length is ∙ length_push exprs f in omega (arith, long)
 
 -- ---- acts along a path
-
-acts_of : (cfa : Cfa) (n : ℕ) (ns : List ℕ) (g : Edge) → slice_get cfa.edges n ≡ Some g
-    → acts_along cfa (n ∷ ns) ≡ g.act ∷ acts_along cfa ns
-acts_of cfa n ns g at = ap (λ (o : Option Edge). act_of o ++ acts_along cfa ns) at
-
-pub acts_long : (cfa : Cfa) (path : List ℕ) → AllByRecursion (λ n. n < length cfa.edges) path
-    → length (acts_along cfa path) ≡ length path
-acts_long cfa [] inside = refl
-acts_long cfa (n ∷ ns) inside =
-    let g = edge_there cfa n inside.0 in
-    ap length (acts_of cfa n ns g.0 g.1) ∙ ap suc (acts_long cfa ns inside.1)
 
 -- the acts from the next edge on
 pub acts_on : (cfa : Cfa) (path : List ℕ) (i : ℕ) (g : Edge)
@@ -104,6 +91,12 @@ module _ (cfa : Cfa) (learnt gates : ℕ) where
   are_done acts e [] are = tt
   are_done [] e (f ∷ fs) are = absurd are
   are_done (a ∷ acts) e (f ∷ fs) are = (are.0.done, are_done acts f fs are.1)
+
+  are_light : (acts : List Act) (e : Expr) (fs : List Expr) → AreBehind cfa learnt gates acts e fs
+      → AreLight cfa.cells gates acts e fs
+  are_light acts e [] are = tt
+  are_light [] e (f ∷ fs) are = absurd are
+  are_light (a ∷ acts) e (f ∷ fs) are = (are.0.done.weighs, are_light acts f fs are.1)
 
   last_is_expr : (acts : List Act) (e : Expr) (fs : List Expr)
       → AreBehind cfa learnt gates acts e fs → IsExpr cfa.cells e → IsExpr cfa.cells (last_of e fs)
@@ -196,14 +189,14 @@ module _ (cfa : Cfa) (learnt gates : ℕ) where
   run_light : (acts : List Act) (fs : List Expr) (a : Act) (rest : List Act)
       → AreBehind cfa learnt gates acts one fs → drop (length fs) acts ≡ a ∷ rest
       → HasRun cfa.cells (a ∷ rest) (last_of one fs)
-      → weight_at cfa (last_of one fs) a rest ≤ gates → IsLight cfa gates acts
-  run_light acts [] a rest are at run light = subst (IsLight cfa gates) (sym at) light
+      → weight_at cfa.cells (last_of one fs) a rest ≤ gates → IsLight cfa.cells gates acts
+  run_light acts [] a rest are at run light = subst (IsLight cfa.cells gates) (sym at) light
   run_light acts (f ∷ fs) a rest are at run light =
       absurd (last_ends acts one f fs are run.store run.holds
       (subst (λ all. RunsFrom cfa.cells all run.store) (sym at) run.run))
 
   pub light_if_run : (acts : List Act) (exprs : List Expr)
-      → IsNextAnswer cfa learnt gates acts exprs answer.Run → IsLight cfa gates acts
+      → IsNextAnswer cfa learnt gates acts exprs answer.Run → IsLight cfa.cells gates acts
   light_if_run acts exprs at =
       run_light acts at.walked.behind at.act at.rest at.walked.cuts at.next at.is.1 at.is.0
 
@@ -257,7 +250,7 @@ module _ (cfa : Cfa) (learnt gates : ℕ) where
 
   pub all_found : (acts : List Act) (exprs : List Expr) → IsExpr cfa.cells one
       → IsWalked cfa learnt gates acts exprs
-      → length exprs ≡ length acts + 1 → 0 < length acts → AreFound cfa learnt gates acts exprs
+      → length exprs ≡ length acts + 1 → 0 < length acts → AreFound cfa.cells gates acts exprs
   all_found acts exprs first walked long some =
       let fs = walked.behind in
       let whole : suc (length fs) ≡ length exprs = sym (ap length walked.are) in
@@ -275,7 +268,7 @@ module _ (cfa : Cfa) (learnt gates : ℕ) where
           none = interpolants_leave_no_run cfa.cells acts one fs
               (lead_on acts one fs walked.cuts count) last;
         };
-        done = are_done acts one fs walked.cuts;
+        light = are_light acts one fs walked.cuts;
         typed = subst (AllByRecursion (IsExpr cfa.cells)) (sym walked.are)
             (first, all_exprs acts one fs walked.cuts);
       }
@@ -313,22 +306,6 @@ some_long cfa path inside h =
     omega (arith, count, some)
 
 -- ---- the path behind the next cut
-
-pub rest_in : (m : ℕ) (path : List ℕ) (k : ℕ) → AllByRecursion (λ n. n < m) path
-    → AllByRecursion (λ n. n < m) (drop k path)
-rest_in m path zero all = all
-rest_in m [] (suc k) all = tt
-rest_in m (n ∷ ns) (suc k) all = rest_in m ns k all.1
-
-pub one_is_expr : (cells : List Cell) → IsExpr cells one
-one_is_expr cells =
-    (a_constant_is_its_number (types_of cells) ty.I32 (pos 1)).1
-    (omega (arith, ints), omega (arith, ints))
-
--- the path behind an edge, as a slice of the path
-pub whole_rest : (path : List ℕ) (k : ℕ) → take (length path - k) (drop k path) ≡ drop k path
-whole_rest path k =
-    take_all (length path - k) (drop k path) (let long = length-drop k path in omega (arith, long))
 
 -- what is answered at a place of the path is the answer at the next cut
 pub at_next : (cfa : Cfa) (learnt gates : ℕ) (path : List ℕ) (exprs : List Expr) (i k : ℕ)

@@ -7,10 +7,11 @@ use Rattle.cpa_model.specs.declared.automaton.Act.{Act}
 use Rattle.cpa_model.specs.declared.automaton.Cfa.{Cfa}
 use Rattle.cpa_model.specs.Expressions.{IsExpr}
 use Rattle.cpa_query.specs.Queries.{IsModel}
-use Rattle.cpa_interpolant_rules.specs.Interpolants.{AreInterpolants, ArePathInterpolants, last_of}
+use Rattle.cpa_interpolant_rules.specs.Interpolants.{AreInterpolants, last_of}
 use Rattle.cpa_interpolant_rules.specs.Interpolants.{one}
-use Rattle.cpa_interpolant_cuts.specs.Cuts.{behind_cut}
-use Rattle.cpa_interpolant_answers.specs.Answers.{weight_at, IsDone, IsLearnt, IsHeavy}
+use Rattle.cpa_interpolant_rules.specs.Parts.{behind_cut}
+use Rattle.cpa_interpolant_rules.specs.Found.{IsLight, AreFound}
+use Rattle.cpa_interpolant_answers.specs.Answers.{IsDone, IsLearnt, IsHeavy}
 use Rattle.cpa_interpolant_answers.specs.Answers.{IsLarge}
 use Rattle.cpa_interpolant.specs.declared.outcome.Along.{Along}
 use Rattle.cpa_interpolant.specs.declared.outcome.Along.TheVariants.{Cuts, Model, Learnt, Gates}
@@ -22,14 +23,6 @@ AreDone cfa learnt gates acts e [] = ⊤
 AreDone cfa learnt gates [] e (f ∷ fs) = ⊥
 AreDone cfa learnt gates (a ∷ acts) e (f ∷ fs) =
     IsDone cfa learnt gates e a acts f × AreDone cfa learnt gates acts f fs
-
--- interpolants of the whole path, well typed over the cells of the program, each cut done within
--- the budgets
-pub record AreFound (cfa : Cfa) (learnt gates : ℕ) (acts : List Act) (exprs : List Expr) : Type 0
-  where
-    pub are : ArePathInterpolants cfa.cells acts exprs
-    pub done : AreDone cfa learnt gates acts one are.interpolants.behind
-    pub typed : AllByRecursion (IsExpr cfa.cells) exprs
 
 -- Interpolants before the first edges, each cut of which is done within the budgets. At the next
 -- cut, behind the last expression, this edge and before these edges, it comes to a stop.
@@ -43,18 +36,13 @@ pub record Stops (cfa : Cfa) (learnt gates : ℕ) (acts : List Act) (exprs : Lis
   pub next : drop (length are.behind) acts ≡ act ∷ behind
   pub stops : stop (last_of one are.behind) act behind
 
--- the first cut weighs at most so much
-abbrev pub IsLight : Cfa → ℕ → List Act → Type 0
-IsLight cfa gates [] = ⊤
-IsLight cfa gates (a ∷ acts) = weight_at cfa one a acts ≤ gates
-
--- Interpolants of the path; a store that is a model of the path's query from any store; or
--- interpolants up to a cut, where all lines are written that are allowed, whose two parts weigh
--- more than is allowed, or whose expression is too large.
+-- Interpolants of the path, by whatever they were found; a store that is a model of the path's
+-- query from any store; or interpolants up to a cut, where all lines are written that are allowed,
+-- whose two parts weigh more than is allowed, or whose expression is too large.
 abbrev pub IsAlong : Cfa → List Act → ℕ → ℕ → Along → Type 0
-IsAlong cfa acts learnt gates (Cuts exprs) = AreFound cfa learnt gates acts exprs.items
+IsAlong cfa acts learnt gates (Cuts exprs) = AreFound cfa.cells gates acts exprs.items
 IsAlong cfa acts learnt gates (Model store) =
-    IsLight cfa gates acts × IsModel (behind_cut cfa.cells acts).query store.values
+    IsLight cfa.cells gates acts × IsModel (behind_cut cfa.cells acts).query store.values
 IsAlong cfa acts learnt gates (Learnt exprs cut lines) =
     Stops cfa learnt gates acts exprs.items cut
     (λ e a behind. IsLearnt cfa learnt gates e a behind lines.items)

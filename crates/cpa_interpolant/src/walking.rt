@@ -1,7 +1,7 @@
 //! The walk over the cuts of a path, `IsAlong` of specs/Along, by one thread or by several.
 //! Proved with `proofs/Walked.antt`.
 
-ghost use Rattle.std.specs.Prelude.{◌≡◌, ◌+◌, ◌<◌, ◌≤◌, ℕ, ◌∷◌, [], length, IfOk};
+ghost use Rattle.std.specs.Prelude.{◌≡◌, ◌+◌, ◌<◌, ◌≤◌, ℕ, ◌∷◌, [], length, IfOk, IfSome};
 ghost use Rattle.std.specs.List.{AllByRecursion};
 ghost use Rattle.cpa_model.specs.Automata.{IsAutomaton};
 ghost use Rattle.cpa_folds.specs.Along.{acts_along};
@@ -13,6 +13,7 @@ use crate::outcome::Along;
 use cpa_audit::Gate;
 use cpa_expr::{Expr, constant};
 use cpa_interpolant_answers::{Answer, answer_cut, answer_cut_par, model_of};
+use cpa_interpolant_words::{Words, look};
 use cpa_ints::IntType;
 use cpa_model::{Cfa, Path};
 use std::alloc::{AllocError, Global};
@@ -94,9 +95,30 @@ fn ended(alloc: Global, cfa: &Cfa, path: &[u32], exprs: Vec<Expr>) -> Result<Alo
     Ok(Along::Cuts { exprs })
 }
 
-/// Interpolants along the path, cut after cut: each cut is answered with the expression before it.
-/// The two parts of a cut may weigh at most `gates` together, and its search may write at most
-/// `learnt` lines.
+/// What is found in the program's own words, or nothing.
+fn in_words(
+    alloc: Global,
+    cfa: &Cfa,
+    path: &[u32],
+    learnt: u32,
+    gates: u64,
+) -> Result<Option<Along>, AllocError>
+    requires automaton { IsAutomaton cfa.now }
+    requires path { AllByRecursion (λ edge. edge < length cfa.now.edges) path.now }
+    ensures { IfOk result (λ found. IfSome found
+        (IsAlong cfa.now (acts_along cfa.now path.now) learnt gates)) }
+{
+    let found = look(alloc, cfa, path, learnt, gates)?;
+    match found {
+        Words::Cuts(exprs) => Ok(Some(Along::Cuts { exprs })),
+        Words::Model(store) => Ok(Some(Along::Model { store })),
+        Words::Open => Ok(None),
+    }
+}
+
+/// Interpolants along the path: in the program's own words, where they are found; else bit by bit,
+/// cut after cut, where each cut is answered with the expression before it. The two parts of a cut
+/// may weigh at most `gates` together, and a search may write at most `learnt` lines.
 pub fn along(
     alloc: Global,
     cfa: &Cfa,
@@ -110,6 +132,10 @@ pub fn along(
         (IsAlong cfa.now (acts_along cfa.now path.now.edges) learnt gates) }
 {
     let edges = path.edges.as_slice();
+    let worded = in_words(alloc, cfa, edges, learnt, gates)?;
+    if let Some(along) = worded {
+        return Ok(along);
+    }
     let mut exprs = first(alloc)?;
     for i in 0..edges.len() {
         let found = answer_cut(
@@ -148,6 +174,10 @@ pub fn along_par<R: Threads + Sync, G: Gate>(
         (IsAlong cfa.now (acts_along cfa.now path.now.edges) learnt gates) }
 {
     let edges = path.edges.as_slice();
+    let worded = in_words(alloc, cfa, edges, learnt, gates)?;
+    if let Some(along) = worded {
+        return Ok(along);
+    }
     let mut exprs = first(alloc)?;
     for i in 0..edges.len() {
         let found = answer_cut_par(

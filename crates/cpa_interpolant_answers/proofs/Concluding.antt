@@ -17,7 +17,8 @@ use Rattle.cpa_interpolant_bits.specs.declared.building.TheConstants.{MAX_SIZE, 
 use Rattle.cpa_interpolant_bits.specs.Limits.{is_large, unless_large}
 use Rattle.cpa_interpolant_conditions.specs.Interpolants.{interpolant_expr}
 use Rattle.cpa_interpolant_rules.specs.Interpolants.{IsNext}
-use Rattle.cpa_interpolant_cuts.specs.Cuts.{before_cut, behind_cut, sides_at, shared_bits_of}
+use Rattle.cpa_interpolant_rules.specs.Parts.{before_cut, behind_cut}
+use Rattle.cpa_interpolant_cuts.specs.Cuts.{sides_at, shared_bits_of}
 use Rattle.cpa_interpolant_cuts.specs.Laws.{CutsInterpolate, CutsAreTyped}
 use Rattle.cpa_interpolant_answers.specs.declared.asking.Refuted.{Refuted}
 use Rattle.cpa_interpolant_answers.specs.Answers.{formula_at, expr_at, IsNextBehind, IsLarge}

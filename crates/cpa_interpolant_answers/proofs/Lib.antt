@@ -1,4 +1,3 @@
-pub mod Edges
 pub mod Fitting
 pub mod Parted
 pub mod Running

@@ -8,9 +8,9 @@ use Rattle.cpa_model.specs.Automata.{IsAutomaton}
 use Rattle.cpa_query.specs.Queries.{IsQuery, IsModel}
 use Rattle.cpa_form_rules.specs.Laws.{FormsAreRuns, IsFormOf}
 use Rattle.cpa_interpolant_rules.specs.Stores.{RunsFrom}
-use Rattle.cpa_interpolant_cuts.specs.Cuts.{added_behind, behind_cut}
-use Rattle.cpa_interpolant_cuts.specs.Laws.{all_taken}
-use Rattle.cpa_interpolant_cuts.specs.lemmas.Next.{runs_of, starts_in}
+use Rattle.cpa_interpolant_rules.specs.Parts.{added_behind, behind_cut}
+use Rattle.cpa_interpolant_rules.specs.lemmas.Taking.{all_taken}
+use Rattle.cpa_interpolant_rules.specs.lemmas.Taking.{runs_of, starts_in}
 
 module _ (forms : FormsAreRuns) (cfa : Cfa) (automaton : IsAutomaton cfa) (acts : List Act)
     (fit : AllByRecursion (IsActOf cfa) acts) where

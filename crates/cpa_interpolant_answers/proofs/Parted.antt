@@ -20,13 +20,16 @@ use Rattle.cpa_model.specs.Expressions.{IsExpr}
 use Rattle.cpa_form_rules.specs.Forms.{Form}
 use Rattle.cpa_folds.specs.Along.{act_of, acts_along}
 use Rattle.cpa_interpolant_bits.specs.declared.bits.Bit.{Bit}
-use Rattle.cpa_interpolant_cuts.specs.Cuts.{before_cut, behind_cut, formula_of, sides_at}
-use Rattle.cpa_interpolant_cuts.specs.Cuts.{shared_bits_of, weight_of}
+use Rattle.cpa_interpolant_rules.specs.Parts.{before_cut, behind_cut}
+use Rattle.cpa_interpolant_cuts.specs.Cuts.{formula_of, sides_at}
+use Rattle.cpa_interpolant_rules.specs.Parts.{weight_of}
+use Rattle.cpa_interpolant_cuts.specs.Cuts.{shared_bits_of}
 use Rattle.cpa_interpolant_cuts.specs.Laws.{IsCut, CutsAreAsked}
 use Rattle.cpa_interpolant_cuts.specs.lemmas.Meet.{AreParts}
-use Rattle.cpa_interpolant_answers.specs.Answers.{formula_at, weight_at}
-use Rattle.cpa_interpolant_answers.specs.lemmas.Keeping.{AreLaws, AreGood, edge_there, good_edge}
-use Rattle.cpa_interpolant_answers.specs.lemmas.Keeping.{good_path}
+use Rattle.cpa_interpolant_rules.specs.Found.{weight_at}
+use Rattle.cpa_interpolant_answers.specs.Answers.{formula_at}
+use Rattle.cpa_interpolant_rules.specs.lemmas.Keeping.{AreLaws, AreGood, edge_there, good_edge}
+use Rattle.cpa_interpolant_rules.specs.lemmas.Keeping.{good_path}
 
 -- the cells of an automaton are few
 pub few_cells : (cfa : Cfa) → IsAutomaton cfa → length cfa.cells < 2 ^ 32
@@ -124,7 +127,8 @@ module _ (cfa : Cfa) (e : Expr) (edge : ℕ) (behind : List ℕ) (A B : Form)
       (formula_of cfa.cells form other).clauses) g is (asked.below cfa e g.act acts (cut_of g is))
 
   module _ (g : Edge) (is : slice_get cfa.edges edge ≡ Some g) where
-    pub weight_is : (weight : ℕ) → weight ≡ weight_of A B → weight ≡ weight_at cfa e g.act acts
+    pub weight_is : (weight : ℕ) → weight ≡ weight_of A B
+        → weight ≡ weight_at cfa.cells e g.act acts
     weight_is weight own =
         own ∙ (ap (λ form. weight_of form B) (at.before g is)
         ∙ ap (weight_of (before_cut cfa.cells e g.act)) at.after)
@@ -147,6 +151,6 @@ module _ (cfa : Cfa) (e : Expr) (edge : ℕ) (behind : List ℕ) (A B : Form)
         ∙ ap (shared_bits_of cfa.cells (before_cut cfa.cells e g.act)) at.after)
 
     pub light : (gates weight : ℕ) → weight ≡ weight_of A B → weight ≤ gates
-        → weight_at cfa e g.act acts ≤ gates
+        → weight_at cfa.cells e g.act acts ≤ gates
     light gates weight own within =
         subst (λ n. n ≤ gates) (weight_is weight own) within

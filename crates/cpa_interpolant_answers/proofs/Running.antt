@@ -24,11 +24,12 @@ use Rattle.cpa_folds.specs.Along.{acts_along}
 use Rattle.cpa_interpolant_rules.specs.Stores.{IsStore, RunsFrom}
 use Rattle.cpa_interpolant_rules.specs.Interpolants.{IsNext, zero}
 use Rattle.cpa_interpolant_rules.specs.Laws.{interpolants_leave_no_run}
-use Rattle.cpa_interpolant_cuts.specs.Cuts.{added_behind}
+use Rattle.cpa_interpolant_rules.specs.Parts.{added_behind}
 use Rattle.cpa_interpolant_cuts.specs.Laws.{IsCut, CutsAreRuns}
-use Rattle.cpa_interpolant_cuts.specs.lemmas.Next.{run_before}
-use Rattle.cpa_interpolant_answers.specs.Answers.{formula_at, weight_at, HasRun, IsNextBehind}
-use Rattle.cpa_interpolant_answers.specs.lemmas.Keeping.{Keeps}
+use Rattle.cpa_interpolant_rules.specs.lemmas.Taking.{run_before}
+use Rattle.cpa_interpolant_rules.specs.Found.{weight_at}
+use Rattle.cpa_interpolant_answers.specs.Answers.{formula_at, HasRun, IsNextBehind}
+use Rattle.cpa_interpolant_rules.specs.lemmas.Keeping.{Keeps}
 
 -- a run that meets the edges is one of stores
 runs_from : (cells : List Cell) (acts : List Act) → AllByRecursion (Keeps cells) acts
@@ -70,7 +71,7 @@ zero_is_expr cells = (a_constant_is_its_number (types_of cells) ty.I32 (pos 0)).
 -- 0 is the next interpolant behind the last edge, where the formula of the cut there is refuted
 pub last_next : CutsAreRuns → NeverRefuted → (cfa : Cfa) (learnt gates : ℕ) (e : Expr) (a : Act)
     (lines : List Line) (f : Expr) → f ≡ zero → IsCut cfa e a []
-    → IsRefutedWithin (formula_at cfa e a []) learnt lines → weight_at cfa e a [] ≤ gates
+    → IsRefutedWithin (formula_at cfa e a []) learnt lines → weight_at cfa.cells e a [] ≤ gates
     → IsNextBehind cfa learnt gates e a [] f
 last_next runs never cfa learnt gates e a lines f is cut refuted weighs = record {
   done = record { weighs = weighs; lines = lines; refuted = refuted; expr = is };
@@ -94,7 +95,7 @@ pub last_behind : CutsAreRuns → NeverRefuted → (cfa : Cfa) (learnt gates : �
     (path : List ℕ) (lines : List Line) (f : Expr) → f ≡ zero → path ≡ []
     → IsCut cfa e a (acts_along cfa path)
     → IsRefutedWithin (formula_at cfa e a (acts_along cfa path)) learnt lines
-    → weight_at cfa e a (acts_along cfa path) ≤ gates
+    → weight_at cfa.cells e a (acts_along cfa path) ≤ gates
     → IsNextBehind cfa learnt gates e a (acts_along cfa path) f
 last_behind runs never cfa learnt gates e a [] lines f is none cut refuted weighs =
     last_next runs never cfa learnt gates e a lines f is cut refuted weighs

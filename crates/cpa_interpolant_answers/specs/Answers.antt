@@ -13,16 +13,15 @@ use Rattle.cpa_model.specs.Expressions.{IsExpr}
 use Rattle.cpa_interpolant_bits.specs.Limits.{is_large}
 use Rattle.cpa_interpolant_rules.specs.Stores.{RunsFrom}
 use Rattle.cpa_interpolant_rules.specs.Interpolants.{IsNext, zero}
-use Rattle.cpa_interpolant_cuts.specs.Cuts.{before_cut, behind_cut, formula_of, expr_of, weight_of}
+use Rattle.cpa_interpolant_rules.specs.Parts.{before_cut, behind_cut, weight_of}
+use Rattle.cpa_interpolant_cuts.specs.Cuts.{formula_of, expr_of}
+use Rattle.cpa_interpolant_rules.specs.Found.{weight_at}
 use Rattle.cpa_interpolant_answers.specs.declared.answer.Answer.{Answer}
 use Rattle.cpa_interpolant_answers.specs.declared.answer.Answer.TheVariants.{Next, Run, Learnt}
 use Rattle.cpa_interpolant_answers.specs.declared.answer.Answer.TheVariants.{Gates, Large}
 
--- At the cut behind e and the edge with the act a, before these edges: what its two parts weigh
--- together, their joined formula, and the expression of the last partial of lines that refute it.
-abbrev pub weight_at : Cfa → Expr → Act → List Act → ℕ
-weight_at cfa e a acts = weight_of (before_cut cfa.cells e a) (behind_cut cfa.cells acts)
-
+-- At the cut behind e and the edge with the act a, before these edges: the joined formula of its
+-- two parts, and the expression of the last partial of lines that refute it.
 abbrev pub formula_at : Cfa → Expr → Act → List Act → Cnf
 formula_at cfa e a acts =
     formula_of cfa.cells (before_cut cfa.cells e a) (behind_cut cfa.cells acts)
@@ -40,7 +39,7 @@ IsExprBehind cfa e a (b ∷ acts) lines f =
 -- the cut is done within the budgets: lines that refute its formula give the expression f
 pub record IsDone (cfa : Cfa) (learnt gates : ℕ) (e : Expr) (a : Act) (acts : List Act)
     (f : Expr) : Type 0 where
-  pub weighs : weight_at cfa e a acts ≤ gates
+  pub weighs : weight_at cfa.cells e a acts ≤ gates
   pub lines : List Line
   pub refuted : IsRefutedWithin (formula_at cfa e a acts) learnt lines
   pub expr : IsExprBehind cfa e a acts lines f
@@ -54,19 +53,19 @@ pub record HasRun (cells : List Cell) (acts : List Act) (e : Expr) : Type 0 wher
 -- all lines that are allowed, over the cut's formula
 pub record IsLearnt (cfa : Cfa) (learnt gates : ℕ) (e : Expr) (a : Act) (acts : List Act)
     (lines : List Line) : Type 0 where
-  pub weighs : weight_at cfa e a acts ≤ gates
+  pub weighs : weight_at cfa.cells e a acts ≤ gates
   pub spent : IsSpent (formula_at cfa e a acts) learnt lines
 
 -- the weight of the cut's parts, which is more than is allowed
 pub record IsHeavy (cfa : Cfa) (gates : ℕ) (e : Expr) (a : Act) (acts : List Act)
     (weight : ℕ) : Type 0 where
-  pub is : weight ≡ weight_at cfa e a acts
+  pub is : weight ≡ weight_at cfa.cells e a acts
   pub more : gates < weight
 
 -- lines that refute the cut's formula, of which the expression is too large
 pub record IsLarge (cfa : Cfa) (learnt gates : ℕ) (e : Expr) (a : Act) (acts : List Act)
     (lines : List Line) : Type 0 where
-  pub weighs : weight_at cfa e a acts ≤ gates
+  pub weighs : weight_at cfa.cells e a acts ≤ gates
   pub refuted : IsRefutedWithin (formula_at cfa e a acts) learnt lines
   pub large : is_large (expr_at cfa e a acts lines) ≡ true
 
@@ -80,7 +79,7 @@ pub record IsNextBehind (cfa : Cfa) (learnt gates : ℕ) (e : Expr) (a : Act) (a
 abbrev pub IsAnswer : Cfa → ℕ → ℕ → Expr → Act → List Act → Answer → Type 0
 IsAnswer cfa learnt gates e a acts (Next f) = IsNextBehind cfa learnt gates e a acts f
 IsAnswer cfa learnt gates e a acts Run =
-    (weight_at cfa e a acts ≤ gates) × HasRun cfa.cells (a ∷ acts) e
+    (weight_at cfa.cells e a acts ≤ gates) × HasRun cfa.cells (a ∷ acts) e
 IsAnswer cfa learnt gates e a acts (Learnt lines) =
     IsLearnt cfa learnt gates e a acts lines.items
 IsAnswer cfa learnt gates e a acts (Gates weight) = IsHeavy cfa gates e a acts weight

@@ -6,9 +6,11 @@ use Rattle.cpa_sat.specs.Outcomes.{IsRefutedWithin}
 use Rattle.cpa_expr.specs.declared.tree.Expr.{Expr}
 use Rattle.cpa_model.specs.declared.automaton.Act.{Act}
 use Rattle.cpa_model.specs.declared.automaton.Cfa.{Cfa}
-use Rattle.cpa_interpolant_cuts.specs.Cuts.{before_cut, behind_cut, sides_at, shared_bits_of}
+use Rattle.cpa_interpolant_rules.specs.Parts.{before_cut, behind_cut}
+use Rattle.cpa_interpolant_cuts.specs.Cuts.{sides_at, shared_bits_of}
 use Rattle.cpa_interpolant_cuts.specs.Laws.{IsCut}
-use Rattle.cpa_interpolant_answers.specs.Answers.{weight_at, formula_at, IsAnswer}
+use Rattle.cpa_interpolant_rules.specs.Found.{weight_at}
+use Rattle.cpa_interpolant_answers.specs.Answers.{formula_at, IsAnswer}
 use Rattle.cpa_interpolant_answers.specs.declared.asking.Refuted.{Refuted}
 use Rattle.cpa_interpolant_answers.specs.declared.asking.Asked.{Asked}
 use Rattle.cpa_interpolant_answers.specs.declared.asking.Asked.TheVariants as asked
@@ -23,7 +25,7 @@ pub record IsWhole (r : Refuted) : Type 0 where
 pub record IsOfCut (cfa : Cfa) (learnt gates : ℕ) (e : Expr) (a : Act) (acts : List Act)
     (r : Refuted) : Type 0 where
   pub cut : IsCut cfa e a acts
-  pub weighs : weight_at cfa e a acts ≤ gates
+  pub weighs : weight_at cfa.cells e a acts ≤ gates
   pub cnf : r.joined.cnf ≡ formula_at cfa e a acts
   pub sides : r.joined.sides.items ≡ sides_at (before_cut cfa.cells e a) (behind_cut cfa.cells acts)
   pub bits : r.joined.bits.items

@@ -11,12 +11,12 @@ ghost use Rattle.cpa_interpolant_rules.specs.Interpolants.{zero};
 ghost use Rattle.cpa_interpolant_answers.specs.Asked.{IsAsked, WholeIfRefuted};
 
 use crate::answer::Answer;
-use crate::forms::{part_before, part_behind, weight_of};
 use crate::joints::{JoinedParts, join_parts};
 use cpa_cnf::{Line, a_refuted_formula_has_no_model};
 use cpa_edgeform::EdgeForm;
 use cpa_expr::{Expr, constant};
 use cpa_interpolant_cuts::{cuts_are_asked, cuts_are_runs};
+use cpa_interpolant_words::{part_before, part_behind, weight_of};
 use cpa_ints::{Boxed, IntType};
 use cpa_model::{Cfa, edges_are_sound, steps_keep_states};
 use cpa_sat::{Found, search};

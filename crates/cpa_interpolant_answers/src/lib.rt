@@ -6,7 +6,6 @@ mod answer;
 mod answering;
 mod asking;
 mod expressing;
-mod forms;
 mod joints;
 mod modelling;
 

@@ -7,11 +7,11 @@ ghost use Rattle.cpa_model.specs.Automata.{IsAutomaton};
 ghost use Rattle.cpa_query.specs.Queries.{IsModel};
 ghost use Rattle.cpa_folds.specs.Along.{acts_along};
 ghost use Rattle.cpa_interpolant_rules.specs.Stores.{RunsFrom};
-ghost use Rattle.cpa_interpolant_cuts.specs.Cuts.{behind_cut};
+ghost use Rattle.cpa_interpolant_rules.specs.Parts.{behind_cut};
 
-use crate::forms::part_behind;
 use cpa_expr::Store;
 use cpa_form_rules::forms_are_runs;
+use cpa_interpolant_words::part_behind;
 use cpa_model::{Cfa, edges_are_sound, steps_keep_states};
 use cpa_solver::{Decided, decide};
 use std::alloc::{AllocError, Global};

@@ -1,38 +1,20 @@
--- A cut of a path (interpolants along a path: McMillan, CAV 2006): the part before it says that an
--- expression is nonzero and that one edge is taken then, the part behind it that the other edges
--- are taken; their formulas are joined on the bits of the cells.
-use Rattle.std.specs.Prelude.{ℕ, ◌+◌, ◌^◌, ◌-◌, min, Bool, true, false, List, [], ◌∷◌, map}
-use Rattle.std.specs.Prelude.{Option}
+-- The formulas of the two parts of a path at a cut, joined on the bits of the cells (interpolants
+-- along a path: McMillan, CAV 2006). The parts stand in specs/Parts of cpa_interpolant_rules.
+use Rattle.std.specs.Prelude.{Bool, List, Option}
 use Rattle.cpa_cnf.specs.declared.formula.Cnf.{Cnf}
 use Rattle.cpa_cnf.specs.declared.formula.Line.{Line}
 use Rattle.cpa_expr.specs.declared.tree.Expr.{Expr}
 use Rattle.cpa_model.specs.declared.program.Cell.{Cell}
-use Rattle.cpa_model.specs.declared.automaton.Act.{Act}
-use Rattle.cpa_facts.specs.declared.fact.Fact.TheVariants.{Truth}
-use Rattle.cpa_model.specs.declared.facts.Elem.{Elem}
 use Rattle.cpa_query.specs.declared.query.Query.{Query}
 use Rattle.cpa_query.specs.Queries.{reads}
 use Rattle.cpa_blast.specs.Formulas.{formula, first_bits}
-use Rattle.cpa_form_rules.specs.Runs.{Added, taken, holding}
-use Rattle.cpa_form_rules.specs.Forms.{Form, form_of}
+use Rattle.cpa_form_rules.specs.Forms.{Form}
 use Rattle.cpa_interpolant_bits.specs.declared.bits.Bit.{Bit}
 use Rattle.cpa_interpolant_joining.specs.Joining.{joined, sides_of}
 use Rattle.cpa_interpolant_conditions.specs.Interpolants.{interpolant_expr}
 use Rattle.cpa_interpolant_names.specs.declared.gathering.Meeting.{Meeting}
 use Rattle.cpa_interpolant_names.specs.declared.gathering.Seen.{Seen}
 use Rattle.cpa_interpolant_names.specs.Meetings.{meetings_from, names_of, bits_of}
-
--- the expression is nonzero
-abbrev pub told : Expr → Elem
-told e = record { facts = Truth e true ∷ [] }
-
--- before the cut the expression is nonzero, and then the edge is taken
-abbrev pub added_before : Expr → Act → List Added
-added_before e a = holding (told e) ∷ taken a ∷ []
-
--- behind it the edges are taken
-abbrev pub added_behind : List Act → List Added
-added_behind acts = map taken acts
 
 -- what is seen of a query and its formula
 abbrev pub seen : Query → Seen
@@ -62,14 +44,3 @@ abbrev pub expr_of : List Cell → Form → Form → List Line → Expr
 expr_of cells before behind log =
     interpolant_expr (shared_bits_of cells before behind) (formula_of cells before behind)
     (sides_at before behind) log
-
--- the forms of a cut
-abbrev pub before_cut : List Cell → Expr → Act → Form
-before_cut cells e a = form_of cells false (added_before e a)
-
-abbrev pub behind_cut : List Cell → List Act → Form
-behind_cut cells acts = form_of cells false (added_behind acts)
-
--- what the two parts weigh together, or the greatest number of 64 bits where it is more
-abbrev pub weight_of : Form → Form → ℕ
-weight_of before behind = min (before.weight + behind.weight) (2 ^ 64 - 1)

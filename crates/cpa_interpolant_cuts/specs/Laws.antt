@@ -36,8 +36,9 @@ use Rattle.cpa_interpolant_names.specs.Meetings.{names_of}
 use Rattle.cpa_interpolant_cuts.specs.Touching.{IsGone}
 use Rattle.cpa_interpolant_cuts.specs.Places.{ArePlaces, places_stand_apart}
 use Rattle.cpa_interpolant_rules.specs.Stores.{IsStore}
+use Rattle.cpa_interpolant_rules.specs.lemmas.Taking.{all_taken}
 use Rattle.cpa_interpolant_rules.specs.Interpolants.{IsNext}
-use Rattle.cpa_interpolant_cuts.specs.Cuts.{added_before, added_behind, before_cut, behind_cut}
+use Rattle.cpa_interpolant_rules.specs.Parts.{added_before, added_behind, before_cut, behind_cut}
 use Rattle.cpa_interpolant_cuts.specs.Cuts.{meetings_of, formula_of, sides_at, expr_of}
 use Rattle.cpa_interpolant_cuts.specs.lemmas.Meet.{AreParts}
 use Rattle.cpa_interpolant_cuts.specs.lemmas.Asked.{as_many_sides, all_below}
@@ -125,11 +126,6 @@ has_sides lists cells A B =
           ++ replicate n false) ((formula A.query).clauses ++ more)) (sym long)
           ∙ lists.second (formula A.query).clauses more;
     }
-
-pub all_taken : (cfa : Cfa) (acts : List Act) → AllByRecursion (IsActOf cfa) acts
-    → AllByRecursion (IsAddedOf cfa) (added_behind acts)
-all_taken cfa [] are = tt
-all_taken cfa (a ∷ acts) are = (are.0, all_taken cfa acts are.1)
 
 all_gone : (acts : List Act) → AllByRecursion IsGone (added_behind acts)
 all_gone [] = tt

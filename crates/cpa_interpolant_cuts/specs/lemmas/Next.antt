@@ -3,9 +3,9 @@ use Rattle.std.proofs.Common.{◌≡◌, ℕ, zero, suc, ◌+◌, ◌<◌, ◌�
 use Rattle.std.proofs.Common.{[], ◌∷◌, ◌++◌, map, take, length, Option, None, Some, slice_get, refl}
 use Rattle.std.proofs.Common.{sym, ap, ◌∙◌, subst, arith, zero-add, ◌⊎◌, inl, inr, IsTrue}
 use Rattle.std.proofs.Common.{IsSomeAnd}
-use Rattle.std.specs.Prelude.{slice_index_or, IsSome, unwrap_or}
+use Rattle.std.specs.Prelude.{slice_index_or, unwrap_or}
 use Rattle.std.specs.List.{AllByRecursion, range_with_len}
-use Rattle.std.proofs.lemmas.List.{length-map, append-nil, get_or_append_left}
+use Rattle.std.proofs.lemmas.List.{length-map, get_or_append_left}
 use Rattle.std.proofs.lemmas.List.FromFn.{length-range_with_len, get_or-map-range_with_len}
 use Rattle.std.proofs.lemmas.Option.{unwrap_or-slice_get}
 use Rattle.std.proofs.lemmas.Slice.Zip.{AllZip-long}
@@ -31,7 +31,6 @@ use Rattle.cpa_form_rules.specs.Runs.{Runs}
 use Rattle.cpa_form_rules.specs.Reading.{ActReads}
 use Rattle.cpa_form_rules.specs.Forms.{Form, place_now}
 use Rattle.cpa_form_rules.specs.Laws.{IsFormOf}
-use Rattle.cpa_form_rules.specs.Stores.{steps_take_inputs}
 use Rattle.cpa_chains.specs.Interpolants.{IsInterpolant}
 use Rattle.cpa_chains.specs.Partials.{last_value, leaves_of, partials_of}
 use Rattle.cpa_interpolant_bits.specs.declared.bits.Bit.{Bit}
@@ -48,11 +47,14 @@ use Rattle.cpa_interpolant_names.specs.Meetings.{names_of, bits_of}
 use Rattle.cpa_interpolant_names.specs.Laws.{IsOne, AreApart, names_are_bits}
 use Rattle.cpa_interpolant_cuts.specs.Touching.{SomeAddedReads, SomeAddedTouches}
 use Rattle.cpa_interpolant_cuts.specs.Places.{ArePlaces}
-use Rattle.cpa_interpolant_rules.specs.Stores.{IsStore, StepsBy, RunsFrom, ActWrites}
+use Rattle.cpa_interpolant_rules.specs.Stores.{IsStore, ActWrites}
 use Rattle.cpa_interpolant_rules.specs.Stores.{SomeActReads}
 use Rattle.cpa_interpolant_rules.specs.Interpolants.{LeadsTo, HasNoRun, ReadsShared, NeverTraps}
 use Rattle.cpa_interpolant_rules.specs.Interpolants.{IsNext}
-use Rattle.cpa_interpolant_cuts.specs.Cuts.{added_before, added_behind, meetings_of, formula_of}
+use Rattle.cpa_interpolant_rules.specs.Parts.{added_before, added_behind}
+use Rattle.cpa_interpolant_rules.specs.lemmas.Taking.{runs_of, starts_in, run_before}
+use Rattle.cpa_interpolant_rules.specs.lemmas.Taking.{has_value}
+use Rattle.cpa_interpolant_cuts.specs.Cuts.{meetings_of, formula_of}
 use Rattle.cpa_interpolant_cuts.specs.Cuts.{sides_at, shared_bits_of, expr_of}
 use Rattle.cpa_interpolant_cuts.specs.lemmas.Meet.{AreParts, cell_of, before_bit, behind_bit}
 use Rattle.cpa_interpolant_cuts.specs.lemmas.Meet.{before_apart, value_of_bit}
@@ -91,43 +93,6 @@ one_truth : (o : Option ℤ) → IsSomeAnd o (λ a. is_nonzero a ≡ true)
     → IsSomeAnd o (λ a. is_nonzero a ≡ false) → ⊥
 one_truth None h k = absurd h
 one_truth (Some a) h k = absurd (cc)
-
-has_value : (o : Option ℤ) (b : Bool) → IsSomeAnd o (λ a. is_nonzero a ≡ b) → IsSome o
-has_value None b h = absurd h
-has_value (Some a) b h = refl
-
--- ---- runs
-
--- a run of stores meets the edges that are taken
-pub runs_of : (cells : List Cell) (acts : List Act) (store : List ℤ) → RunsFrom cells acts store
-    → (inputs last : List ℤ) × Runs cells (added_behind acts) store inputs last
-runs_of cells [] store run = ([], store, (refl, refl))
-runs_of cells (a ∷ acts) store (next, step, rest) =
-    let (others, last, runs) = runs_of cells acts next rest in
-    let (own, meets) = (steps_take_inputs.step cells a store next).0 step.step in
-    (own ++ others, last, (next, own, others, meets, refl, runs))
-
-pub starts_in : (cells : List Cell) (acts : List Act) (store : List ℤ) → RunsFrom cells acts store
-    → IsStore cells store
-starts_in cells [] store run = run
-starts_in cells (a ∷ acts) store (next, step, rest) = step.before
-
--- one edge from a store where the expression is nonzero
-pub run_before : (cells : List Cell) (e : Expr) (a : Act) (old new : List ℤ) → HasTruth old e true
-    → StepsBy cells a old new
-    → (inputs : List ℤ) × Runs cells (added_before e a) old inputs new
-run_before cells e a old new holds step =
-    let (own, meets) = (steps_take_inputs.step cells a old new).0 step.step in (
-      own,
-      (
-        old,
-        [],
-        own,
-        ((holds, tt), refl, refl),
-        refl,
-        (new, own, [], meets, sym (append-nil own), (refl, refl)),
-      ),
-    )
 
 -- ---- what is read
 

@@ -38,7 +38,8 @@ use Rattle.cpa_interpolant_names.specs.declared.gathering.Meeting.{Meeting}
 use Rattle.cpa_interpolant_names.specs.Meetings.{names_of}
 use Rattle.cpa_interpolant_names.specs.Laws.{names_are_bits}
 use Rattle.cpa_interpolant_rules.specs.Stores.{IsStore}
-use Rattle.cpa_interpolant_cuts.specs.Cuts.{added_before, added_behind, meetings_of, formula_of}
+use Rattle.cpa_interpolant_rules.specs.Parts.{added_before, added_behind}
+use Rattle.cpa_interpolant_cuts.specs.Cuts.{meetings_of, formula_of}
 use Rattle.cpa_interpolant_cuts.specs.lemmas.Meet.{AreParts, at, cell_of, one_at, before_bit}
 use Rattle.cpa_interpolant_cuts.specs.lemmas.Meet.{behind_bit, behind_apart, value_of_bit}
 use Rattle.cpa_interpolant_cuts.specs.lemmas.Asked.{names_low}

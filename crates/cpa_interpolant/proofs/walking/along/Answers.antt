@@ -5,7 +5,7 @@ use Rattle.cpa_folds.specs.Along.{acts_along}
 use Rattle.cpa_interpolant.specs.Along.{IsAlong}
 use Rattle.cpa_interpolant.specs.Walked.{IsWalked, IsStep}
 use Rattle.cpa_interpolant.proofs.Walked.{at_next, expr_there, runs_if_run, later}
-use Rattle.cpa_interpolant.proofs.Walked.{whole_rest}
+use Rattle.cpa_interpolant_rules.specs.lemmas.Paths.{whole_rest}
 use Rattle.cpa_interpolant.proofs.walking.along.Goals as goal
 
 pub answer_cut-requires-clause-expr : goal.answer_cut-requires-clause-expr

@@ -1,8 +1,8 @@
 -- All cuts are done, or there is none.
 use Rattle.std.proofs.Common.{◌+◌, ◌∙◌, ap, sym}
 use Rattle.cpa_folds.specs.Along.{acts_along}
-use Rattle.cpa_interpolant.proofs.Walked.{all_found, acts_long, starts_there, none_of, some_long}
-use Rattle.cpa_interpolant.proofs.Walked.{one_is_expr}
+use Rattle.cpa_interpolant_rules.specs.lemmas.Paths.{acts_long, one_is_expr}
+use Rattle.cpa_interpolant.proofs.Walked.{all_found, starts_there, none_of, some_long}
 use Rattle.cpa_interpolant.proofs.walking.ended.Goals as goal
 
 pub model_of-requires-clause-run : goal.model_of-requires-clause-run

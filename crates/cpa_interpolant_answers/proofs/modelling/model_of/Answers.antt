@@ -5,7 +5,7 @@ use Rattle.cpa_query.specs.Queries.{IsQuery, IsModel}
 use Rattle.cpa_form_rules.specs.Forms.{Form}
 use Rattle.cpa_solver.specs.Decisions.{IsDecided}
 use Rattle.cpa_folds.specs.Along.{acts_along}
-use Rattle.cpa_interpolant_answers.specs.lemmas.Keeping.{good_path}
+use Rattle.cpa_interpolant_rules.specs.lemmas.Keeping.{good_path}
 use Rattle.cpa_interpolant_answers.proofs.Modelled.{asked, model_there}
 use Rattle.cpa_interpolant_answers.proofs.modelling.model_of.Goals as goal
 

@@ -8,7 +8,7 @@ use Rattle.cpa_model.specs.declared.automaton.Cfa.{Cfa}
 use Rattle.cpa_form_rules.specs.Runs.{taken}
 use Rattle.cpa_form_rules.specs.Forms.{Form, form_from, with_added}
 use Rattle.cpa_folds.specs.Along.{act_of, acts_along}
-use Rattle.cpa_interpolant_cuts.specs.Cuts.{added_behind}
+use Rattle.cpa_interpolant_rules.specs.Parts.{added_behind}
 
 there_is : {X : Type 0} (xs : List X) (i : ℕ) → i < length xs → (x : X) × (slice_get xs i ≡ Some x)
 there_is [] i less = absurd (omega (arith, less))

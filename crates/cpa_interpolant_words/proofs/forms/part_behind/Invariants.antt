@@ -2,8 +2,8 @@
 use Rattle.std.proofs.Common.{◌≡◌, drop}
 use Rattle.cpa_form_rules.specs.Forms.{form_from}
 use Rattle.cpa_folds.specs.Along.{acts_along}
-use Rattle.cpa_interpolant_cuts.specs.Cuts.{added_behind, behind_cut}
-use Rattle.cpa_interpolant_answers.proofs.forms.part_behind.Given as goal
+use Rattle.cpa_interpolant_rules.specs.Parts.{added_behind, behind_cut}
+use Rattle.cpa_interpolant_words.proofs.forms.part_behind.Given as goal
 
 abbrev pub invariant-loop-number : goal.invariant-loop-number
 invariant-loop-number l =

@@ -2,9 +2,9 @@ use Rattle.std.proofs.Common.{◌≡◌, ◌+◌, ℕ, List, drop, get_or, ap, �
 use Rattle.std.proofs.lemmas.List.{drop_more}
 use Rattle.cpa_form_rules.specs.Forms.{Form, form_from}
 use Rattle.cpa_folds.specs.Along.{acts_along}
-use Rattle.cpa_interpolant_cuts.specs.Cuts.{added_behind, behind_cut}
-use Rattle.cpa_interpolant_answers.proofs.Edges.{edge_at, form_on}
-use Rattle.cpa_interpolant_answers.proofs.forms.part_behind.Goals as goal
+use Rattle.cpa_interpolant_rules.specs.Parts.{added_behind, behind_cut}
+use Rattle.cpa_interpolant_words.proofs.Edges.{edge_at, form_on}
+use Rattle.cpa_interpolant_words.proofs.forms.part_behind.Goals as goal
 
 pub loop-number-preserved : goal.loop-number-preserved
 loop-number-preserved c =

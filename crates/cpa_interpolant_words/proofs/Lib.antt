@@ -1,0 +1,4 @@
+pub mod Edges
+pub mod Steps
+pub mod SharedCells
+pub mod Whole
