@@ -1,27 +1,22 @@
 -- One cut more on the way, and what is there at its end.
 use Rattle.std.proofs.Common.{◌≡◌, ℕ, zero, suc, ◌+◌, ◌<◌, ◌≤◌, ℤ, List, [], ◌∷◌, ◌++◌, length}
 use Rattle.std.proofs.Common.{drop, map}
-use Rattle.std.proofs.Common.{Option, Some, slice_get, get_or, refl, sym, ap, ◌∙◌, subst, arith}
+use Rattle.std.proofs.Common.{Some, slice_get, get_or, refl, sym, ap, ◌∙◌, subst, arith}
 use Rattle.std.proofs.Common.{true, false}
 use Rattle.std.specs.Prelude.{◌==◌}
 use Rattle.std.proofs.lemmas.Bool.{eqb-true, eq-eqb}
 use Rattle.std.specs.List.{AllByRecursion}
-use Rattle.std.proofs.Common.{take, ◌-◌}
-use Rattle.std.proofs.lemmas.List.{length_push, length-drop, take_all}
-use Rattle.std.proofs.Common.{pos}
-use Rattle.std.proofs.lemmas.Int.{ints}
-use Rattle.cpa_ints.specs.declared.integers.IntType.TheVariants as ty
+use Rattle.std.proofs.lemmas.List.{length_push}
 use Rattle.cpa_ints.specs.Integers.{IsInRange}
-use Rattle.cpa_expr.specs.Laws.{a_constant_is_its_number}
 use Rattle.cpa_expr.specs.declared.tree.Expr.{Expr}
 use Rattle.cpa_model.specs.declared.program.Cell.{Cell}
 use Rattle.cpa_model.specs.declared.automaton.Act.{Act}
 use Rattle.cpa_model.specs.declared.automaton.Edge.{Edge}
 use Rattle.cpa_model.specs.declared.automaton.Cfa.{Cfa}
 use Rattle.cpa_model.specs.Automata.{IsAutomaton}
-use Rattle.cpa_model.specs.Expressions.{types_of, IsExpr}
+use Rattle.cpa_model.specs.Expressions.{IsExpr}
 use Rattle.cpa_form_rules.specs.Laws.{starts_fit}
-use Rattle.cpa_folds.specs.Along.{act_of, acts_along}
+use Rattle.cpa_folds.specs.Along.{acts_along}
 use Rattle.cpa_interpolant_rules.specs.Stores.{IsStore, RunsFrom}
 use Rattle.cpa_interpolant_rules.specs.Interpolants.{AreNext, HasNoRun, LeadOn}
 use Rattle.cpa_interpolant_rules.specs.Interpolants.{last_of, one}
@@ -32,7 +27,7 @@ use Rattle.cpa_interpolant_answers.specs.declared.answer.Answer.TheVariants as a
 use Rattle.cpa_interpolant_rules.specs.Found.{weight_at, AreLight, IsLight, AreFound}
 use Rattle.cpa_interpolant_answers.specs.Answers.{IsAnswer, IsNextBehind, HasRun}
 use Rattle.cpa_interpolant_rules.specs.lemmas.Keeping.{edge_there, edge_in}
-use Rattle.cpa_interpolant_rules.specs.lemmas.Paths.{last_at, acts_of, acts_long}
+use Rattle.cpa_interpolant_rules.specs.lemmas.Paths.{last_at, acts_of, acts_long, one_is_expr}
 use Rattle.cpa_interpolant.specs.Along.{AreDone, Stops}
 use Rattle.cpa_interpolant.specs.Walked.{AreBehind, IsWalked, IsNextAnswer, RunsIfRun}
 

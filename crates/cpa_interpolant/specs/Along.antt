@@ -1,11 +1,9 @@
 -- Interpolants along a path, cut after cut (McMillan, Lazy Abstraction with Interpolants, CAV
 -- 2006), or why there are none (the bounds are this project's own).
-use Rattle.std.specs.Prelude.{◌≡◌, ℕ, ◌≤◌, ⊤, List, [], ◌∷◌, drop, length}
-use Rattle.std.specs.List.{AllByRecursion}
+use Rattle.std.specs.Prelude.{◌≡◌, ℕ, ⊤, List, [], ◌∷◌, drop, length}
 use Rattle.cpa_expr.specs.declared.tree.Expr.{Expr}
 use Rattle.cpa_model.specs.declared.automaton.Act.{Act}
 use Rattle.cpa_model.specs.declared.automaton.Cfa.{Cfa}
-use Rattle.cpa_model.specs.Expressions.{IsExpr}
 use Rattle.cpa_query.specs.Queries.{IsModel}
 use Rattle.cpa_interpolant_rules.specs.Interpolants.{AreInterpolants, last_of}
 use Rattle.cpa_interpolant_rules.specs.Interpolants.{one}
