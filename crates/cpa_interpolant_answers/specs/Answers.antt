@@ -13,7 +13,7 @@ use Rattle.cpa_model.specs.Expressions.{IsExpr}
 use Rattle.cpa_interpolant_bits.specs.Limits.{is_large}
 use Rattle.cpa_interpolant_rules.specs.Stores.{RunsFrom}
 use Rattle.cpa_interpolant_rules.specs.Interpolants.{IsNext, zero}
-use Rattle.cpa_interpolant_rules.specs.Parts.{before_cut, behind_cut, weight_of}
+use Rattle.cpa_interpolant_rules.specs.Parts.{before_cut, behind_cut}
 use Rattle.cpa_interpolant_cuts.specs.Cuts.{formula_of, expr_of}
 use Rattle.cpa_interpolant_rules.specs.Found.{weight_at}
 use Rattle.cpa_interpolant_answers.specs.declared.answer.Answer.{Answer}

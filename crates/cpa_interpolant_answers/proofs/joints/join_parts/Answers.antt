@@ -1,8 +1,8 @@
 -- The bits of the cells are variables of both formulas.
-use Rattle.std.proofs.Common.{◌≡◌, ◌∙◌, ap}
+use Rattle.std.proofs.Common.{◌∙◌, ap}
 use Rattle.cpa_blast.specs.Formulas.{formula}
 use Rattle.cpa_interpolant_names.specs.Meetings.{names_of}
-use Rattle.cpa_interpolant_cuts.specs.Cuts.{seen, meetings_of}
+use Rattle.cpa_interpolant_cuts.specs.Cuts.{seen}
 use Rattle.cpa_interpolant_answers.proofs.Fitting.{same_meetings, names_fit, bits_fit, formula_is}
 use Rattle.cpa_interpolant_answers.proofs.joints.join_parts.Goals as goal
 
