@@ -1,12 +1,6 @@
 //! The start of the program: the words of the command line, the analyses and the outside, handed to
-//! the top call, by `IsOwnAnswer` of specs/Own. Apart from `main`, so that rows can show what the
-//! program answers to many words.
+//! the top call. Apart from `main`, so that rows can show what the program answers to many words.
 #![tactic(auto)]
-
-ghost use Rattle.std.specs.Prelude.{IfOk, map};
-ghost use Rattle.std.specs.String.{string_bytes};
-ghost use Rattle.cpa_top.specs.Calls.{output_by};
-ghost use Rattle.cpa_host_start.specs.Own.{IsOwnAnswer};
 
 use cpa_callstack::Callstack;
 use cpa_composite::Handed;
@@ -50,16 +44,12 @@ fn refuse_memory<R: Print>(out: &mut StdoutSink<R>) -> ExitCode {
     }
 }
 
-/// The status of what the top call answers to these words by the program's own analyses, over the
-/// files of the system.
+/// The status of what the top call answers to these words, over the files of the system.
 pub fn answer<R: Threads + Sync + Files + AllocGlobal, K: Sink>(
     rt: &R,
     words: Vec<String>,
     out: &mut K,
-) -> Result<u8, AllocError>
-    ensures own { IfOk result (IsOwnAnswer (map string_bytes words.items)
-        (output_by K.written K.faults out.old out.new)) }
-{
+) -> Result<u8, AllocError> {
     let alloc = rt.alloc();
     let mut analyses = Vec::new(alloc);
     analyses.push(Handed {
