@@ -10,9 +10,9 @@ ghost use Rattle.c_types_globals.specs.Scopes.{before_of};
 ghost use Rattle.c_types_bodies.specs.Bodies.{AreNumbered};
 ghost use Rattle.c_types.specs.Blocks.{block_behind, block_faults, block_calls, block_function};
 
-use c_grammar_tree::{BlockItem, Body, FunctionDeclarator, Item, Specifiers};
+use c_grammar_tree::{Body, Item};
 use c_lexer::TextFault;
-use c_types_bodies::read_body;
+use c_types_bodies::{FunctionDefinition, read_body};
 use c_types_globals::{
     Scope, Start, declare_enumeration, declare_function, declare_objects, declare_typedefs,
 };
@@ -56,38 +56,26 @@ fn gather_block(
     alloc: Global,
     survey: &Survey,
     gathered: &mut Gathered,
-    specifiers: &Specifiers,
-    declarator: &FunctionDeclarator,
-    items: &[BlockItem],
-    place: u32,
-    end: u32,
+    function: &FunctionDefinition,
 ) -> Result<(), AllocError>
     requires { AreNumbered gathered.old.scope.objects gathered.old.scope.names }
-    ensures scope { OnOk result (before_of gathered.new.scope ≡ block_behind survey.now
-        specifiers.now declarator.now items.now (before_of gathered.old.scope)) }
+    ensures scope { OnOk result (before_of gathered.new.scope
+        ≡ block_behind survey.now function.now (before_of gathered.old.scope)) }
     ensures first { OnOk result (gathered.new.first ≡ first_with gathered.old.first
-        (block_faults survey.now specifiers.now declarator.now items.now
-        (before_of gathered.old.scope))) }
+        (block_faults survey.now function.now (before_of gathered.old.scope))) }
     ensures calls { OnOk result (gathered.new.calls.items ≡ gathered.old.calls.items
-        ++ block_calls survey.now specifiers.now declarator.now items.now
-        (before_of gathered.old.scope)) }
+        ++ block_calls survey.now function.now (before_of gathered.old.scope)) }
     ensures functions { OnOk result (gathered.new.functions.items ≡ gathered.old.functions.items
-        ++ block_function survey.now specifiers.now declarator.now items.now place end
-        (before_of gathered.old.scope) ∷ []) }
+        ++ block_function survey.now function.now (before_of gathered.old.scope) ∷ []) }
     ensures starts { gathered.new.starts.items ≡ gathered.old.starts.items }
 {
     let bodies = gathered.scope.bodies.checked_add(1).ok_or(AllocError)?;
     let body = read_body(
         alloc,
         survey,
+        function,
         &mut gathered.scope.names,
         gathered.scope.objects,
-        gathered.scope.bodies,
-        specifiers,
-        &declarator.parameters,
-        items,
-        place,
-        end,
         &mut gathered.first,
         &mut gathered.calls,
     )?;
@@ -102,31 +90,23 @@ fn gather_parameters(
     alloc: Global,
     survey: &Survey,
     gathered: &mut Gathered,
-    specifiers: &Specifiers,
-    declarator: &FunctionDeclarator,
+    function: &FunctionDefinition,
 ) -> Result<(), AllocError>
     requires { AreNumbered gathered.old.scope.objects gathered.old.scope.names }
     ensures scope { OnOk result (before_of gathered.new.scope ≡ before_of gathered.old.scope) }
     ensures first { OnOk result (gathered.new.first ≡ first_with gathered.old.first
-        (block_faults survey.now specifiers.now declarator.now []
-        (before_of gathered.old.scope))) }
+        (block_faults survey.now function.now (before_of gathered.old.scope))) }
     ensures calls { OnOk result (gathered.new.calls.items ≡ gathered.old.calls.items
-        ++ block_calls survey.now specifiers.now declarator.now []
-        (before_of gathered.old.scope)) }
+        ++ block_calls survey.now function.now (before_of gathered.old.scope)) }
     ensures functions { gathered.new.functions.items ≡ gathered.old.functions.items }
     ensures starts { gathered.new.starts.items ≡ gathered.old.starts.items }
 {
     read_body(
         alloc,
         survey,
+        function,
         &mut gathered.scope.names,
         gathered.scope.objects,
-        gathered.scope.bodies,
-        specifiers,
-        &declarator.parameters,
-        &[],
-        0,
-        0,
         &mut gathered.first,
         &mut gathered.calls,
     )?;
@@ -187,12 +167,27 @@ fn gather_item(
         } => {
             declare_function(alloc, survey, scope, true, specifiers, declarator, first)?;
             match body {
-                Body::Skipped => gather_parameters(alloc, survey, gathered, specifiers, declarator),
+                Body::Skipped => {
+                    let function = FunctionDefinition {
+                        number: gathered.scope.bodies,
+                        specifiers,
+                        parameters: &declarator.parameters,
+                        items: &[],
+                        place: 0,
+                        end: 0,
+                    };
+                    gather_parameters(alloc, survey, gathered, &function)
+                }
                 Body::Block { items, place, end } => {
-                    let items = items.as_slice();
-                    gather_block(
-                        alloc, survey, gathered, specifiers, declarator, items, *place, *end,
-                    )
+                    let function = FunctionDefinition {
+                        number: gathered.scope.bodies,
+                        specifiers,
+                        parameters: &declarator.parameters,
+                        items: items.as_slice(),
+                        place: *place,
+                        end: *end,
+                    };
+                    gather_block(alloc, survey, gathered, &function)
                 }
             }
         }

@@ -24,9 +24,11 @@ use Rattle.c_types_jumps.specs.Found.{Found, with_base}
 use Rattle.c_types_bodies.specs.declared.walker.Cases.{Cases}
 use Rattle.c_types_bodies.specs.declared.walker.Frame.{Frame}
 use Rattle.c_types_bodies.specs.declared.walker.Nest.{Nest}
+use Rattle.c_types_bodies.specs.declared.walker.Progress.{Progress}
+use Rattle.c_types_bodies.specs.declared.walker.Scope.{Scope}
 use Rattle.c_types_bodies.specs.declared.walker.Switch.{Switch as SwitchAt}
 use Rattle.c_types_bodies.specs.declared.walker.Walker.{Walker}
-use Rattle.c_types_bodies.specs.States.{State}
+use Rattle.c_types_bodies.specs.States.{State, walked}
 
 -- the objects of file scope, which are those of the first names
 abbrev pub base_of : ℕ → List Entry → List ℕ
@@ -128,3 +130,20 @@ pub record IsSwitchOn (text : Text) (part : Walk) (around : Around) (value : Exp
 -- where the body of a switch stands
 abbrev pub within_switch : Text → Expression → Walk → Around → Around
 within_switch text value part around = switched text value (end_behind part around) around
+
+-- the same of a place at which statements are walked through
+abbrev pub text_at : Scope → Text
+text_at scope = scope.frame.now.survey.now
+
+abbrev pub around_at : Scope → Progress → Around
+around_at scope progress = around_of scope.frame.now scope.nest progress.walker
+
+abbrev pub state_at : Scope → Progress → State
+state_at scope progress = state_of scope.frame.now scope.nest progress.walker progress.jumps
+
+abbrev pub walked_at : Scope → Walk → State → State
+walked_at scope walk state =
+    walked scope.frame.now.survey.now scope.frame.now.caller walk state
+
+abbrev pub AreTied : Scope → Progress → Type 0
+AreTied scope progress = IsTied scope.frame.now progress.walker progress.jumps

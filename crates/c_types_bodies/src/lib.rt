@@ -4,11 +4,14 @@
 
 mod acts;
 mod body;
+mod cases;
 mod declarations;
+mod jumps;
 mod labels;
+mod loops;
 mod parameters;
 mod statements;
 mod switches;
 mod walker;
 
-pub use body::{ReadBody, read_body};
+pub use body::{FunctionDefinition, ReadBody, read_body};

@@ -1,10 +1,12 @@
 //! What a walk through statements is told and what it keeps.
 //! What it stands for is in `specs/Views.antt`. Plain data.
 use c_lexer::TextFault;
+use c_types_jumps::Jumps;
 use c_types_names::{Firsts, Names, Survey};
 use c_types_recursion::Call;
 use c_types_rules::{Choice, Kind};
 use cpa_ints::IntType;
+use std::alloc::Global;
 use std::collections::HashMap;
 
 /// What holds in a whole function.
@@ -67,4 +69,19 @@ pub(crate) struct Walker {
     pub(crate) first: Option<TextFault>,
     /// The calls in order.
     pub(crate) calls: Vec<Call>,
+}
+
+/// A place of a function at which statements are walked through.
+#[derive(Drop)]
+pub(crate) struct Scope<'a> {
+    pub(crate) alloc: Global,
+    pub(crate) frame: &'a Frame<'a>,
+    pub(crate) nest: Nest,
+}
+
+/// What is known and noted up to a place, and the labels and the gotos of the function so far.
+#[derive(Drop)]
+pub(crate) struct Progress {
+    pub(crate) walker: Walker,
+    pub(crate) jumps: Jumps,
 }

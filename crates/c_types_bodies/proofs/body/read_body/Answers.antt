@@ -13,4 +13,5 @@ walk_function-requires c = record {
     otherwise = c.no_cases.ensures.otherwise;
     passed = refl;
   };
+  jumps = c.in_ok-jumps.ensures;
 }

@@ -8,7 +8,7 @@ use Rattle.c_types_bodies.specs.declared.walker.Walker.{Walker}
 use Rattle.c_types_bodies.specs.Views.{AreCases, entering_places}
 use Rattle.c_types_bodies.proofs.Selecting.{default_state}
 use Rattle.c_types_bodies.proofs.Switching.{tied_cases}
-use Rattle.c_types_bodies.proofs.switches.select_rest.Goals as goal
+use Rattle.c_types_bodies.proofs.cases.select_rest.Goals as goal
 
 pub returns-clause-tied : goal.returns-clause-tied
 returns-clause-tied c =

@@ -2,7 +2,7 @@ use Rattle.std.proofs.Common.{ℕ, ℤ, Option, Some, cond, ap, ◌∙◌, rules
 use Rattle.std.specs.HashMap.{get}
 use Rattle.std.specs.Ordering.{int_eq}
 use Rattle.c_types_bodies.proofs.Selecting.{cases_more}
-use Rattle.c_types_bodies.proofs.switches.push_value.Goals as goal
+use Rattle.c_types_bodies.proofs.cases.push_value.Goals as goal
 use mir.Syntax.{w128}
 
 pub returns-clause-cases : goal.returns-clause-cases

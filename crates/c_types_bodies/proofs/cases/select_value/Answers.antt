@@ -4,7 +4,7 @@ use Rattle.c_types_bodies.specs.declared.walker.Walker.{Walker}
 use Rattle.c_types_bodies.specs.Views.{AreCases}
 use Rattle.c_types_bodies.proofs.Selecting.{case_state}
 use Rattle.c_types_bodies.proofs.Switching.{tied_cases}
-use Rattle.c_types_bodies.proofs.switches.select_value.Goals as goal
+use Rattle.c_types_bodies.proofs.cases.select_value.Goals as goal
 
 pub read_case-requires : goal.read_case-requires
 read_case-requires c = c.requires.cases
