@@ -1,5 +1,7 @@
 pub mod StepLemmas
 pub mod StandingLemmas
+pub mod LeadingLemmas
+pub mod RestingLemmas
 pub mod NearLemmas
 pub mod BudgetLemmas
 pub mod TransferLemmas

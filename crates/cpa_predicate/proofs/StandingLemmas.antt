@@ -65,7 +65,8 @@ module _ (cfa : Cfa) (a : IsAutomaton cfa) (p : Expr) where
   abbrev pub Unread : Act → Type 0
   Unread one = (cell : ℕ) → Writes one cell → cell < 2 ^ 32 - 1 → may_read p cell ≡ false
 
-  stays : (one : Act) (old new : List ℤ) → IsActOf cfa one → Unread one
+  -- the expression reads the same before and after the act
+  pub stays : (one : Act) (old new : List ℤ) → IsActOf cfa one → Unread one
       → StepsStore cfa.cells one old new → AgreesWhereRead p old new
   stays act.Skip old new is unread step cell reads = ap (λ s. slice_get s cell) (sym step)
   stays (act.Assign base len index value) old new is unread step cell reads =

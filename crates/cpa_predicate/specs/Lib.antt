@@ -3,6 +3,8 @@ pub mod Questions
 pub mod Transfer
 pub mod Known
 pub mod Standing
+pub mod Leading
+pub mod Resting
 pub mod Refining
 pub mod Predicates
 pub mod lemmas

@@ -21,7 +21,7 @@ fn reads_among(p: &Expr, base: u32, len: u32) -> bool
 }
 
 /// Whether the act may write a cell that the expression may read.
-fn may_change(act: &Act, p: &Expr) -> bool
+pub(crate) fn may_change(act: &Act, p: &Expr) -> bool
     ensures { result ≡ false → (cell : ℕ) → Writes act.now cell → cell < 2 ^ 32 - 1
         → may_read p.now cell ≡ false }
 {

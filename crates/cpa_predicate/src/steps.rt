@@ -1,6 +1,7 @@
 //! The form of a step along an edge, by `specs/Questions.antt`.
 
-ghost use Rattle.std.specs.Prelude.{◌≡◌, ◌<◌, length, slice_get, Some, IfOk};
+ghost use Rattle.std.specs.Prelude.{◌≡◌, ◌<◌, [], false, length, slice_get, Some, IfOk};
+ghost use Rattle.std.specs.List.{filter};
 ghost use Rattle.cpa_model.specs.declared.automaton.Edge.{Edge as AnEdge};
 ghost use Rattle.cpa_predicate.specs.Steps.{is_truth, truths};
 ghost use Rattle.cpa_predicate.specs.Questions.{step_form};
@@ -17,6 +18,18 @@ fn is_truth(fact: &Fact) -> bool
         Fact::Truth { .. } => true,
         _ => false,
     }
+}
+
+/// Whether the element says the truth of a predicate.
+pub(crate) fn says_truth(elem: &Elem) -> bool
+    ensures { result ≡ false → filter is_truth elem.now.facts ≡ [] }
+{
+    for fact in &elem.facts {
+        if is_truth(fact) {
+            return true;
+        }
+    }
+    false
 }
 
 /// The element's facts on the truths of predicates.

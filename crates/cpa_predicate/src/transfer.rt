@@ -2,27 +2,32 @@
 
 ghost use Rattle.std.specs.Prelude.{◌≡◌, ◌<◌, ◌≤◌, ◌-◌, ◌^◌, ◌∷◌, ◌++◌, []};
 ghost use Rattle.std.specs.Prelude.{length, slice_get, Some, IsTrue, IfOk, IfSome, OnOk};
-ghost use Rattle.std.specs.List.{AllByRecursion};
+ghost use Rattle.std.specs.List.{AllByRecursion, filter};
 ghost use Rattle.cpa_model.specs.declared.automaton.Edge.{Edge as AnEdge};
+ghost use Rattle.cpa_model.specs.declared.automaton.Cfa.{Cfa as ACfa};
+ghost use Rattle.cpa_model.specs.Acts.{IsActOf};
 ghost use Rattle.cpa_model.specs.Automata.{IsAutomaton};
 ghost use Rattle.cpa_model.specs.Expressions.{IsExpr};
 ghost use Rattle.cpa_iface.specs.Meanings.{IsShaped};
 ghost use Rattle.cpa_predicate.specs.Predicates.{no_facts};
 ghost use Rattle.cpa_predicate.specs.Questions.{IsStep, Spends, SomeBeyond, IsOpen};
-ghost use Rattle.cpa_predicate.specs.Steps.{HasAfter, IsAfter};
-ghost use Rattle.cpa_predicate.specs.Transfer.{IsTruthAfter, AreTruths, IsOutcome};
+ghost use Rattle.cpa_predicate.specs.Leading.{AlwaysSteps};
+ghost use Rattle.cpa_predicate.specs.Steps.{is_truth, HasAfter, IsAfter};
+ghost use Rattle.cpa_predicate.specs.Transfer.{IsTruthAfter, AreTruths, IsOutcome, NoneOpen};
 ghost use Rattle.cpa_predicate.specs.Transfer.{IsCartesian, fact_of, facts_of, elems_of};
 
 use crate::asking::{Asker, Budgets, found_truth, sure_truth};
 use crate::known::Outcome;
+use crate::leading::always_leads_on;
 use crate::nearness::{near_cells, near_truths};
+use crate::resting::{acts_as_skip, skip_along};
 use crate::standing::standing_truth;
-use crate::steps::step_form;
+use crate::steps::{says_truth, step_form};
 use crate::witnesses::{leads_nowhere, mixed_lacking, some_lacks, stores_behind};
 use cpa_edgeform::EdgeForm;
 use cpa_expr::{copy, value_depends_on_what_is_read};
 use cpa_form_rules::{failing_is_not_holding, forms_are_runs, steps_take_inputs};
-use cpa_model::{Cfa, Edge, Elem, Expr, Fact, Seq, Store, edges_are_sound};
+use cpa_model::{Act, Cfa, Edge, Elem, Expr, Fact, Seq, Store, edges_are_sound};
 use std::alloc::{AllocError, Global};
 
 /// The truth that the predicate has wherever the edge leads, where it follows from the truths of
@@ -158,7 +163,7 @@ fn whole_truth(
     forms_are_runs();
     failing_is_not_holding();
     steps_take_inputs();
-    let stores = stores_behind(alloc, cfa, edge, elem, asker.stores(), false)?;
+    let stores = stores_behind(alloc, cfa, edge, elem, asker.stores(), usize::MAX)?;
     let behind = stores.as_slice();
     let lacks_true = some_lacks(p, true, behind);
     let lacks_false = some_lacks(p, false, behind);
@@ -287,6 +292,31 @@ fn is_settled(preds: &[Expr], behind: &[Store]) -> bool
     }
 }
 
+/// How many stores behind a step are of use: one where no predicate is to be looked at.
+fn stores_wanted(preds: &[Expr]) -> usize {
+    if preds.is_empty() { 1 } else { usize::MAX }
+}
+
+/// The stores to which the edge leads. Where none was known, a model may have been found since.
+fn or_new_ones(
+    alloc: Global,
+    asker: &Asker,
+    cfa: &Cfa,
+    edge: &Edge,
+    elem: &Elem,
+    stores: Vec<Store>,
+) -> Result<Vec<Store>, AllocError>
+    requires { AllByRecursion (IsAfter cfa.now elem.now edge.now) stores.items }
+    ensures { IfOk result (λ found.
+        AllByRecursion (IsAfter cfa.now elem.now edge.now) found.items) }
+{
+    if stores.is_empty() {
+        stores_behind(alloc, cfa, edge, elem, asker.stores(), usize::MAX)
+    } else {
+        Ok(stores)
+    }
+}
+
 /// What is found of the step along the edge.
 fn outcome_of(
     alloc: Global,
@@ -310,8 +340,15 @@ fn outcome_of(
     forms_are_runs();
     steps_take_inputs();
     let along = cfa.edge(edge);
-    let behind = stores_behind(alloc, cfa, along, elem, asker.stores(), preds.is_empty())?;
-    let behind = behind.as_slice();
+    let stores = stores_behind(
+        alloc,
+        cfa,
+        along,
+        elem,
+        asker.stores(),
+        stores_wanted(preds),
+    )?;
+    let behind = stores.as_slice();
     let settled = is_settled(preds, behind);
     if settled {
         let none = Seq::new(alloc);
@@ -322,7 +359,7 @@ fn outcome_of(
     if never {
         return Ok(None);
     }
-    let stores = stores_behind(alloc, cfa, along, elem, asker.stores(), false)?;
+    let stores = or_new_ones(alloc, asker, cfa, along, elem, stores)?;
     let behind = stores.as_slice();
     let truths = truths_after(alloc, asker, cfa, edge, along, elem, &step, behind, preds)?;
     Ok(Some(truths))
@@ -335,28 +372,107 @@ fn all_decided(before: Budgets, after: Budgets) -> bool
     after.spent == before.spent && before.spent < u64::MAX
 }
 
-/// Keeps stores to which the edge leads from those that are kept: the predicates of the element
-/// behind it have their truths on them.
+/// How many stores behind a step are kept.
+const KEPT_BEHIND: usize = 2;
+
+/// Keeps stores to which the edge leads from those that are kept, the newest last: the predicates
+/// of the element behind it have their truths on them. Without predicates none is wanted.
 fn keep_behind(
     alloc: Global,
     asker: &mut Asker,
     cfa: &Cfa,
     edge: &Edge,
     elem: &Elem,
+    preds: &[Expr],
 ) -> Result<(), AllocError>
     ensures { asker.new ≡ asker.old }
 {
-    let mut behind = stores_behind(alloc, cfa, edge, elem, asker.stores(), false)?;
-    if let Some(last) = behind.pop() {
-        asker.keep_store(alloc, last)?;
+    if preds.is_empty() {
+        return Ok(());
     }
+    let mut behind = stores_behind(alloc, cfa, edge, elem, asker.stores(), KEPT_BEHIND)?;
     if let Some(other) = behind.pop() {
         asker.keep_store(alloc, other)?;
+    }
+    if let Some(newest) = behind.pop() {
+        asker.keep_store(alloc, newest)?;
     }
     Ok(())
 }
 
-/// Keeps stores behind the step, and its outcome, if all that was asked since `before` was decided.
+/// The outcome that is kept of the step along the edge, or of a skip where that has the same one.
+fn known_outcome<'a>(
+    asker: &'a Asker,
+    cfa: &Cfa,
+    edge: &Edge,
+    elem: &Elem,
+    preds: &[Expr],
+) -> Option<&'a Outcome>
+    requires automaton { IsAutomaton cfa.now }
+    requires act { IsActOf cfa.now edge.now.act }
+    ensures { IfSome result (λ outcome.
+        IsOutcome NoneOpen cfa.now elem.now edge.now preds.now outcome.now) }
+{
+    let as_skip = acts_as_skip(&edge.act, preds);
+    if as_skip {
+        let skip = skip_along(edge);
+        match asker.outcome_of(cfa, &skip, elem, preds) {
+            Some(outcome) => Some(outcome),
+            None => None,
+        }
+    } else {
+        asker.outcome_of(cfa, edge, elem, preds)
+    }
+}
+
+/// Keeps the outcome of the step along the edge, or that of a skip where it is the same one.
+fn keep_outcome(
+    alloc: Global,
+    asker: &mut Asker,
+    cfa: &Cfa,
+    edge: &Edge,
+    elem: &Elem,
+    preds: &[Expr],
+    outcome: &Outcome,
+) -> Result<(), AllocError>
+    requires automaton { IsAutomaton cfa.now }
+    requires act { IsActOf cfa.now edge.now.act }
+    requires outcome { IsOutcome NoneOpen cfa.now elem.now edge.now preds.now outcome.now }
+    ensures { asker.new ≡ asker.old }
+{
+    let as_skip = acts_as_skip(&edge.act, preds);
+    if as_skip {
+        let skip = skip_along(edge);
+        asker.keep_outcome(alloc, cfa, &skip, elem, preds, outcome)
+    } else {
+        asker.keep_outcome(alloc, cfa, edge, elem, preds, outcome)
+    }
+}
+
+/// Keeps the outcome of a skip behind the step: the truths that were found, and no others.
+fn keep_rest(
+    alloc: Global,
+    asker: &mut Asker,
+    cfa: &Cfa,
+    edge: &Edge,
+    _elem: &Elem,
+    preds: &[Expr],
+    outcome: &Outcome,
+) -> Result<(), AllocError>
+    requires act { IsActOf cfa.now edge.now.act }
+    requires outcome { IsOutcome NoneOpen cfa.now _elem.now edge.now preds.now outcome.now }
+    ensures { asker.new ≡ asker.old }
+{
+    if let Some(truths) = outcome {
+        let after = elem_of(alloc, preds, truths.as_slice())?;
+        let skip = skip_along(edge);
+        asker.keep_outcome(alloc, cfa, &skip, &after, preds, outcome)?;
+    }
+    Ok(())
+}
+
+/// Keeps stores behind the step, its outcome, and that of a skip from there, if all that was asked
+/// since `before` was decided.
 fn keep_decided(
     alloc: Global,
     asker: &mut Asker,
@@ -367,14 +483,17 @@ fn keep_decided(
     preds: &[Expr],
     outcome: &Outcome,
 ) -> Result<(), AllocError>
-    requires { IsOutcome (IsOpen before asker.old cfa.now elem.now edge.now) cfa.now elem.now
-        edge.now preds.now outcome.now }
+    requires automaton { IsAutomaton cfa.now }
+    requires act { IsActOf cfa.now edge.now.act }
+    requires outcome { IsOutcome (IsOpen before asker.old cfa.now elem.now edge.now) cfa.now
+        elem.now edge.now preds.now outcome.now }
     ensures { asker.new ≡ asker.old }
 {
-    keep_behind(alloc, asker, cfa, edge, elem)?;
+    keep_behind(alloc, asker, cfa, edge, elem, preds)?;
     let decided = all_decided(before, asker.budgets());
     if decided {
-        asker.keep_outcome(alloc, cfa, edge, elem, preds, outcome)?;
+        keep_outcome(alloc, asker, cfa, edge, elem, preds, outcome)?;
+        keep_rest(alloc, asker, cfa, edge, elem, preds, outcome)?;
     }
     Ok(())
 }
@@ -433,8 +552,26 @@ fn elems_of(alloc: Global, preds: &[Expr], outcome: &Outcome) -> Result<Vec<Elem
     Ok(elems)
 }
 
+/// Whether nothing is to be asked of a step by the act: no predicate is to be looked at, the
+/// element says no truth, and the act leads on from each store.
+fn asks_nothing(act: &Act, elem: &Elem, preds: &[Expr]) -> bool
+    ensures { IsTrue result → (preds.now ≡ []) × (filter is_truth elem.now.facts ≡ [])
+        × ((cfa : ACfa) → IsActOf cfa act.now → AlwaysSteps cfa act.now) }
+{
+    preds.is_empty() && !says_truth(elem) && always_leads_on(act)
+}
+
+/// The one element without facts.
+fn no_facts_alone(alloc: Global) -> Result<Vec<Elem>, AllocError>
+    ensures { IfOk result (λ es. es.items ≡ elems_of [] (Some [])) }
+{
+    let mut elems = Vec::new(alloc);
+    elems.push(no_facts())?;
+    Ok(elems)
+}
+
 /// The element of the truths that the predicates have wherever the edge leads, if it leads
-/// anywhere.
+/// anywhere. Nothing is made or looked up where nothing is to be asked.
 pub(crate) fn successors(
     alloc: Global,
     asker: &mut Asker,
@@ -453,8 +590,14 @@ pub(crate) fn successors(
     ensures spends { (g : AnEdge) → slice_get cfa.now.edges edge ≡ Some g
         → Spends asker.old asker.new (SomeBeyond asker.old cfa.now elem.now g preds.now) }
 {
+    edges_are_sound();
     let along = cfa.edge(edge);
-    if let Some(outcome) = asker.outcome_of(cfa, along, elem, preds) {
+    let free = asks_nothing(&along.act, elem, preds);
+    if free {
+        let alone = no_facts_alone(alloc)?;
+        return Ok(alone);
+    }
+    if let Some(outcome) = known_outcome(asker, cfa, along, elem, preds) {
         let elems = elems_of(alloc, preds, outcome)?;
         return Ok(elems);
     }

@@ -103,6 +103,16 @@ fn copy_of(alloc: Global, store: &Store) -> Result<Store, AllocError>
     })
 }
 
+/// Whether the act may be done on the store, as far as its test tells: this is cheaper than what
+/// `behind` asks and does.
+fn admits(act: &Act, store: &Store) -> bool {
+    if let Act::Assume { test, holds } = act {
+        has_truth(test, *holds, store)
+    } else {
+        true
+    }
+}
+
 /// The store to which the edge leads from this one, where the predicates of the element have their
 /// truths on it.
 fn behind(
@@ -114,7 +124,10 @@ fn behind(
 ) -> Result<Option<Store>, AllocError>
     ensures { IfOk result (λ found. IfSome found (IsAfter cfa.now elem.now edge.now)) }
 {
-    if !has_truths(elem, store) || !are_values(cfa.cells.as_slice(), store.values.as_slice()) {
+    if !admits(&edge.act, store) || !has_truths(elem, store) {
+        return Ok(None);
+    }
+    if !are_values(cfa.cells.as_slice(), store.values.as_slice()) {
         return Ok(None);
     }
     let mut new = copy_of(alloc, store)?;
@@ -123,25 +136,25 @@ fn behind(
 }
 
 /// The stores to which the edge leads from those of the given ones on which the predicates of the
-/// element have their truths, or the first of them where one does.
+/// element have their truths, from the newest one on, and at most so many.
 pub(crate) fn stores_behind(
     alloc: Global,
     cfa: &Cfa,
     edge: &Edge,
     elem: &Elem,
     stores: &[Store],
-    one_does: bool,
+    most: usize,
 ) -> Result<Vec<Store>, AllocError>
     ensures { IfOk result (λ found.
         AllByRecursion (IsAfter cfa.now elem.now edge.now) found.items) }
 {
     let mut found = Vec::new(alloc);
-    for store in stores {
+    for store in stores.iter().rev() {
+        if found.len() >= most {
+            return Ok(found);
+        }
         if let Some(new) = behind(alloc, cfa, edge, elem, store)? {
             found.push(new)?;
-            if one_does {
-                return Ok(found);
-            }
         }
     }
     Ok(found)
@@ -159,9 +172,9 @@ pub(crate) fn some_lacks(p: &Expr, holds: bool, stores: &[Store]) -> bool
     false
 }
 
-/// The first of the stores on which the predicates of the element have their truths.
-fn first_with_truths<'a>(elem: &Elem, stores: &'a [Store]) -> Option<&'a Store> {
-    for store in stores {
+/// The newest of the stores on which the predicates of the element have their truths.
+fn newest_with_truths<'a>(elem: &Elem, stores: &'a [Store]) -> Option<&'a Store> {
+    for store in stores.iter().rev() {
         if has_truths(elem, store) {
             return Some(store);
         }
@@ -182,10 +195,27 @@ fn mixed(alloc: Global, store: &Store, other: &Store, marks: &[bool]) -> Result<
     })
 }
 
+/// Whether the edge leads from the store to one on which the expression has not this truth.
+fn leads_to_lack(
+    alloc: Global,
+    cfa: &Cfa,
+    edge: &Edge,
+    store: &Store,
+    p: &Expr,
+    holds: bool,
+) -> Result<bool, AllocError> {
+    if !admits(&edge.act, store) {
+        return Ok(false);
+    }
+    let mut new = copy_of(alloc, store)?;
+    let steps = step(alloc, cfa.cells.as_slice(), &edge.act, &mut new);
+    Ok(steps && !has_truth(p, holds, &new))
+}
+
 /// A store on which the predicates of the element have their truths, and from which the edge leads
 /// to one on which the expression has not this truth, if one comes of the stores: it has the values
-/// of the newest one that serves in the marked cells, and else those of one on which the predicates
-/// have their truths.
+/// of the newest one that serves in the marked cells, and else those of the newest one on which the
+/// predicates have their truths. What is cheap is looked at first.
 pub(crate) fn mixed_lacking(
     alloc: Global,
     cfa: &Cfa,
@@ -196,15 +226,13 @@ pub(crate) fn mixed_lacking(
     p: &Expr,
     holds: bool,
 ) -> Result<Option<Store>, AllocError> {
-    let Some(own) = first_with_truths(elem, stores) else {
+    let Some(own) = newest_with_truths(elem, stores) else {
         return Ok(None);
     };
     for other in stores.iter().rev() {
         let store = mixed(alloc, own, other, marks)?;
-        if let Some(new) = behind(alloc, cfa, edge, elem, &store)? {
-            if !has_truth(p, holds, &new) {
-                return Ok(Some(store));
-            }
+        if leads_to_lack(alloc, cfa, edge, &store, p, holds)? && has_truths(elem, &store) {
+            return Ok(Some(store));
         }
     }
     Ok(None)

@@ -4,10 +4,18 @@ use Rattle.cpa_predicate.specs.declared.asking.Budgets.{Budgets}
 use Rattle.cpa_predicate.proofs.KnownLemmas.{decided}
 use Rattle.cpa_predicate.proofs.transfer.keep_decided.Goals as goal
 
-pub keep_outcome-requires : goal.keep_outcome-requires
-keep_outcome-requires c =
+pub keep_outcome-requires-clause-outcome : goal.keep_outcome-requires-clause-outcome
+keep_outcome-requires-clause-outcome c =
     decided c.args.cfa.now c.args.elem.now c.args.edge.now c.args.before c.args.asker.now
     c.args.preds.now c.args.outcome.now
     (subst (λ (b : Budgets). (b.spent ≡ c.args.before.spent) × (c.args.before.spent < 2 ^ 64 - 1))
     (c.budgets.ensures ∙ c.keep_behind.ensures) (c.all_decided-decided.ensures c.if-decided.true))
-    c.requires
+    c.requires.outcome
+
+pub keep_rest-requires-clause-outcome : goal.keep_rest-requires-clause-outcome
+keep_rest-requires-clause-outcome c =
+    decided c.args.cfa.now c.args.elem.now c.args.edge.now c.args.before c.args.asker.now
+    c.args.preds.now c.args.outcome.now
+    (subst (λ (b : Budgets). (b.spent ≡ c.args.before.spent) × (c.args.before.spent < 2 ^ 64 - 1))
+    (c.budgets.ensures ∙ c.keep_behind.ensures) (c.all_decided-decided.ensures c.if-decided.true))
+    c.requires.outcome

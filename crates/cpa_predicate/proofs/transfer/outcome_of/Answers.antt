@@ -63,4 +63,4 @@ returns-then-settled-clause-outcome c =
     (settled (O g) cfa e g along c.args.preds.now c.as_slice-behind.result.now
     (same_Some _ _ (sym c.edge-along.ensures ∙ at)) found.0 found.1
     (subst (AllByRecursion (IsAfter cfa e along)) (sym c.as_slice-behind.ensures.value)
-    c.in_ok-behind.ensures))
+    c.in_ok-stores.ensures))

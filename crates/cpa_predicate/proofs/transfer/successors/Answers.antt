@@ -5,16 +5,39 @@ use Rattle.cpa_predicate.specs.declared.asking.Budgets.{Budgets}
 use Rattle.cpa_predicate.specs.Questions.{IsOpen}
 use Rattle.cpa_predicate.specs.Transfer.{IsOutcome}
 use Rattle.cpa_predicate.proofs.KnownLemmas.{given, recalled}
+use Rattle.cpa_predicate.proofs.RestingLemmas.{free_gives}
 use Rattle.cpa_predicate.proofs.transfer.successors.Goals as goal
 
-pub keep_decided-requires : goal.keep_decided-requires
-keep_decided-requires c =
+pub keep_decided-requires-clause-outcome : goal.keep_decided-requires-clause-outcome
+keep_decided-requires-clause-outcome c =
     let cfa = c.args.cfa.now in
     let e = c.args.elem.now in
     let along = c.edge-along.result.now in
-    subst (λ (b : Budgets). IsOutcome (IsOpen b c.outcome_of-2.new.asker cfa e along) cfa e
+    subst (λ (b : Budgets). IsOutcome (IsOpen b c.outcome_of.new.asker cfa e along) cfa e
     along c.args.preds.now c.in_ok-outcome.outcome) (sym c.budgets-before.ensures)
     (c.in_ok-outcome.ensures.outcome along c.edge-along.ensures)
+
+pub keep_decided-requires-clause-act : goal.keep_decided-requires-clause-act
+keep_decided-requires-clause-act c =
+    (c.edges_are_sound.ensures c.args.cfa.now c.args.edge c.edge-along.result.now
+    c.requires.automaton c.edge-along.ensures).act
+
+pub known_outcome-requires-clause-act : goal.known_outcome-requires-clause-act
+known_outcome-requires-clause-act c =
+    (c.edges_are_sound.ensures c.args.cfa.now c.args.edge c.edge-along.result.now
+    c.requires.automaton c.edge-along.ensures).act
+
+pub returns-then-free-clause-known : goal.returns-then-free-clause-known
+returns-then-free-clause-known c =
+    let cfa = c.args.cfa.now in
+    let e = c.args.elem.now in
+    let along = c.edge-along.result.now in
+    let b = c.args.asker.now in
+    λ g at.
+    free_gives (IsOpen b b cfa e g) cfa e g along c.args.preds.now c.in_ok-alone.alone.items
+    (same_Some _ _ (sym c.edge-along.ensures ∙ at)) c.requires.automaton
+    (c.edges_are_sound.ensures cfa c.args.edge along c.requires.automaton c.edge-along.ensures).act
+    (c.asks_nothing-free.ensures c.if-free.true) c.in_ok-alone.ensures
 
 pub returns-in-Some-clause-known : goal.returns-in-Some-clause-known
 returns-in-Some-clause-known c = λ g at.
