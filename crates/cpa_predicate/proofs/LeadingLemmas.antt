@@ -1,5 +1,5 @@
 -- What cannot trap has a value, and an act of such leads on.
-use Rattle.std.proofs.Common.{◌≡◌, ◌≢◌, ◌+◌, ◌<◌, ℕ, zero, suc, ℤ, pos, negsuc, ◌<ℤ◌, ◌≤ℤ◌}
+use Rattle.std.proofs.Common.{◌≡◌, ◌≢◌, ◌+◌, ◌<◌, ◌≤◌, ℕ, zero, suc, ℤ, pos, negsuc, ◌<ℤ◌, ◌≤ℤ◌}
 use Rattle.std.proofs.Common.{List, [], ◌∷◌, length, refl, sym, ap, ◌∙◌, subst, arith, inl, inr}
 use Rattle.std.specs.Prelude.{◌⊎◌, Option, None, Some, IsSomeAnd, slice_get, slice_set}
 use Rattle.std.specs.List.{AllByRecursion}
@@ -14,10 +14,10 @@ use Rattle.cpa_expr.specs.declared.tree.Expr.TheVariants.{Read, Bin, rolls-Read,
 use Rattle.cpa_expr.specs.declared.tree.Expr.TheViews.{out-roll-Expr}
 use Rattle.cpa_expr.specs.declared.tree.Expr.TheOpen.{Expr-F}
 use Rattle.cpa_expr.specs.Cells.{AreValues}
-use Rattle.cpa_expr.specs.Evaluations.{Evaluates, at_node, in_part}
+use Rattle.cpa_expr.specs.Evaluations.{Evaluates, Meets, at_node, in_part}
 use Rattle.cpa_expr.specs.Laws.{no_value_is_a_trap}
 use Rattle.cpa_expr.specs.Shape.{OfParts, parts}
-use Rattle.cpa_expr.specs.Traps.{IsOutside, HasNoValue, TrapsHere}
+use Rattle.cpa_expr.specs.Traps.{IsOutside, HasNoValue, TrapsHere, Traps}
 use Rattle.cpa_expr.specs.Values.{value_of}
 use Rattle.cpa_model.specs.declared.automaton.Act.{Act}
 use Rattle.cpa_model.specs.declared.automaton.Act.TheVariants as act

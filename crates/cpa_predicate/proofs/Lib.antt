@@ -2,6 +2,8 @@ pub mod StepLemmas
 pub mod StandingLemmas
 pub mod LeadingLemmas
 pub mod RestingLemmas
+pub mod SayingLemmas
+pub mod SettlingLemmas
 pub mod NearLemmas
 pub mod BudgetLemmas
 pub mod TransferLemmas

@@ -1,7 +1,7 @@
 -- A step that leads on from each store and leaves the predicates has the outcome of a skip; and the
 -- truths behind a step are the outcome of a skip from there.
 use Rattle.std.proofs.Common.{◌≡◌, ◌+◌, ℕ, zero, suc, ℤ, Bool, List, [], ◌∷◌, refl, sym, ap, ◌∙◌}
-use Rattle.std.proofs.Common.{subst, map}
+use Rattle.std.proofs.Common.{subst}
 use Rattle.std.specs.Prelude.{◌↔◌, Option, None, Some, IsSomeAnd, IfSome, slice_get, slice_set}
 use Rattle.std.specs.List.{AllByRecursion, filter}
 use Rattle.cpa_ints.specs.Integers.{IsInRange}
@@ -111,6 +111,13 @@ module _ (cfa : Cfa) (a : IsAutomaton cfa) (e : Elem) (g h : Edge) (one : Act)
         (has old old (from_step old new s)),
   )
 
+  -- so the predicate has after the step what it has after the skip
+  pub left_truth : (p : Expr) (truth : Option Bool) → Leaves one p
+      → IsTruthAfter NoneOpen cfa e h p truth → IsTruthAfter NoneOpen cfa e g p truth
+  left_truth p truth leaves =
+      truth_alike cfa e e h g p truth
+      (λ holds. let alike = has_alike p leaves holds in (alike.1, alike.0))
+
   all_alike : (preds : List Expr) → AllByRecursion (Leaves one) preds
       → AllByRecursion (Alike cfa e e g h) preds
   all_alike [] leaves = tt
@@ -144,13 +151,12 @@ nothing_asked cfa e g one preds a own leads none empty =
     let first = starts_fit cfa.cells
     (subst (AllByRecursion (λ (c : Cell). IsInRange c.ty c.start)) (sym a.automaton.cells)
     a.well_formed.starts) in
-    let old : List ℤ = map (λ (c : Cell). c.start) cfa.cells in
-    let next = leads old first in
+    let next = leads _ first in
     subst (λ (ps : List Expr). IsOutcome NoneOpen cfa e g ps (Some [])) (sym empty) (
-      λ never. never old next.0 (record {
+      λ never. never _ next.0 (record {
         values = first;
-        truths = subst (AllByRecursion (StoreFactHolds old)) (sym none) tt;
-        step = subst (λ (x : Act). StepsStore cfa.cells x old next.0) (sym own) next.1;
+        truths = subst (AllByRecursion (StoreFactHolds _)) (sym none) tt;
+        step = subst (λ (x : Act). StepsStore cfa.cells x _ next.0) (sym own) next.1;
       }),
       tt,
     )

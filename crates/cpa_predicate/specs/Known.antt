@@ -12,13 +12,17 @@ use Rattle.cpa_model.specs.declared.automaton.Act.{Act}
 use Rattle.cpa_model.specs.declared.automaton.Edge.{Edge}
 use Rattle.cpa_model.specs.declared.automaton.Cfa.{Cfa}
 use Rattle.cpa_model.specs.Expressions.{types_of}
-use Rattle.cpa_predicate.specs.Transfer.{NoneOpen, IsTruthAfter, AreTruths, IsOutcome}
+use Rattle.cpa_predicate.specs.Transfer.{NoneOpen, IsTruthAfter, AreTruths, IsOutcome, facts_of}
 
 -- the truths that facts say of predicates, in their order
 abbrev pub told : List Fact → List (Expr × Bool)
 told [] = []
 told (Truth expr holds ∷ facts) = (expr, holds) ∷ told facts
 told (fact ∷ facts) = told facts
+
+-- the facts say these truths of the predicates, in their order, and no others
+abbrev pub SayAll : List Fact → List Expr → List (Option Bool) → Type 0
+SayAll facts preds truths = told facts ≡ told (facts_of preds truths)
 
 -- the edge does this act, in an automaton with cells of these types, and the element says these
 -- truths

@@ -2,9 +2,11 @@ pub mod Steps
 pub mod Questions
 pub mod Transfer
 pub mod Known
+pub mod Saying
 pub mod Standing
 pub mod Leading
 pub mod Resting
+pub mod Settling
 pub mod Refining
 pub mod Predicates
 pub mod lemmas

@@ -2,6 +2,7 @@
 
 ghost use Rattle.std.specs.Prelude.{◌≡◌, ℕ, ◌∷◌, [], IsTrue, true, false, Bool, IfOk, IfSome};
 ghost use Rattle.cpa_facts.specs.declared.fact.Fact.TheVariants.{Truth};
+ghost use Rattle.cpa_model.specs.declared.facts.Elem.{Elem as AnElem};
 ghost use Rattle.cpa_query.specs.declared.query.Query.{Query as AQuery};
 ghost use Rattle.cpa_query.specs.Queries.{IsQuery};
 ghost use Rattle.cpa_solver.specs.Decisions.{HasNoModel, IsDecided};
@@ -9,6 +10,7 @@ ghost use Rattle.cpa_predicate.specs.Questions.{IsSettledBy, IsAnswerTo, IsAnswe
 ghost use Rattle.cpa_predicate.specs.Questions.{IsUndecided, IsBeyond, Spends};
 ghost use Rattle.cpa_predicate.specs.Questions.{lacking, IsFound};
 ghost use Rattle.cpa_predicate.specs.Predicates.{default_budgets};
+ghost use Rattle.cpa_predicate.specs.Known.{SayAll};
 ghost use Rattle.cpa_predicate.specs.Transfer.{IsOutcome, NoneOpen};
 
 use crate::findings::{Finding, query_fingerprint};
@@ -18,7 +20,7 @@ use crate::table::Table;
 use cpa_edgeform::EdgeForm;
 use cpa_expr::copy;
 use cpa_iface::{DEFAULT_GATES, DEFAULT_LEARNT};
-use cpa_model::{Cfa, Edge, Elem, Expr, Fact, Seq, Store};
+use cpa_model::{Cfa, Edge, Elem, Expr, Fact, Seq, Shared, Store};
 use cpa_query::Query;
 use cpa_solver::{Decided, decide};
 use std::alloc::{AllocError, Global};
@@ -138,41 +140,43 @@ impl Asker {
         self.steps = None;
     }
 
-    /// The outcome that is kept of the step along the edge.
+    /// The outcome that is kept of a step along the edge, from an element that says these truths of
+    /// the predicates.
     pub(crate) fn outcome_of(
         &self,
         cfa: &Cfa,
         edge: &Edge,
-        elem: &Elem,
+        said: &[Option<bool>],
         preds: &[Expr],
     ) -> Option<&Outcome>
-        ensures { IfSome result (λ outcome.
-            IsOutcome NoneOpen cfa.now elem.now edge.now preds.now outcome.now) }
+        ensures { IfSome result (λ outcome. (e : AnElem) → SayAll e.facts preds.now said.now
+            → IsOutcome NoneOpen cfa.now e edge.now preds.now outcome.now) }
     {
-        let fingerprint = step_fingerprint(&edge.act, elem, preds);
+        let fingerprint = step_fingerprint(&edge.act, said, preds);
         let known = self.steps.as_ref()?.get(fingerprint)?;
-        known.outcome_of(cfa, edge, elem, preds)
+        known.outcome_of(cfa, edge, said, preds)
     }
 
-    /// Keeps the outcome of the step along the edge.
+    /// Keeps the outcome of such a step.
     pub(crate) fn keep_outcome(
         &mut self,
         alloc: Global,
         cfa: &Cfa,
         edge: &Edge,
-        elem: &Elem,
-        preds: &[Expr],
+        said: &[Option<bool>],
+        preds: &Shared<Expr>,
         outcome: &Outcome,
     ) -> Result<(), AllocError>
-        requires { IsOutcome NoneOpen cfa.now elem.now edge.now preds.now outcome.now }
+        requires { (e : AnElem) × SayAll e.facts preds.now said.now
+            × IsOutcome NoneOpen cfa.now e edge.now preds.now outcome.now }
         ensures { self.new ≡ self.old }
     {
-        let known = known_step(alloc, cfa, edge, elem, preds, outcome)?;
+        let known = known_step(alloc, cfa, edge, said, preds, outcome)?;
         let mut steps = match mem::replace(&mut self.steps, None) {
             Some(steps) => steps,
             None => Table::new(alloc),
         };
-        steps.keep(step_fingerprint(&edge.act, elem, preds), known)?;
+        steps.keep(step_fingerprint(&edge.act, said, preds.as_slice()), known)?;
         self.steps = Some(steps);
         Ok(())
     }

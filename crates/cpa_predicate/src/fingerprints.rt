@@ -2,7 +2,7 @@
 //! same ones, so whatever is found is compared.
 
 use cpa_expr::{Expr, Parts, bin_word, cmp_word, parts_of, un_word};
-use cpa_model::{Act, Elem, Fact};
+use cpa_model::Act;
 use std::hash::{FoldHasher, Hash, Hasher};
 
 /// Feeds what tells a node from others, but for its types.
@@ -62,24 +62,26 @@ fn feed_act(act: &Act, state: &mut FoldHasher) {
     }
 }
 
-/// Feeds the truths of an element.
-fn feed_truths(elem: &Elem, state: &mut FoldHasher) {
-    for fact in &elem.facts {
-        if let Fact::Truth { expr, holds } = fact {
-            holds.hash(state);
-            feed(expr, state);
+/// Feeds truths.
+fn feed_truths(truths: &[Option<bool>], state: &mut FoldHasher) {
+    for truth in truths {
+        match truth {
+            Some(true) => b'1'.hash(state),
+            Some(false) => b'0'.hash(state),
+            None => b'-'.hash(state),
         }
     }
 }
 
-/// A number by which a step is found, with the predicates that were looked at.
-pub(crate) fn step_fingerprint(act: &Act, elem: &Elem, preds: &[Expr]) -> u64 {
+/// A number by which a step is found, from an element that says these truths of the predicates. Of
+/// these it tells how many there are, and the last: a precision grows at its end.
+pub(crate) fn step_fingerprint(act: &Act, said: &[Option<bool>], preds: &[Expr]) -> u64 {
     let mut state = FoldHasher::default();
     feed_act(act, &mut state);
-    feed_truths(elem, &mut state);
+    feed_truths(said, &mut state);
     preds.len().hash(&mut state);
-    for p in preds {
-        feed(p, &mut state);
+    if let Some(last) = preds.last() {
+        feed(last, &mut state);
     }
     state.finish()
 }

@@ -1,15 +1,15 @@
 //! Steps whose outcome is known, since all that was asked about them was decided. What is kept of a
 //! step is right for each step like it, in whichever automaton (`specs/Known.antt`).
 
-ghost use Rattle.std.specs.Prelude.{◌≡◌, ◌∷◌, List, IsTrue, IfOk, IfSome};
+ghost use Rattle.std.specs.Prelude.{◌≡◌, IsTrue, IfOk, IfSome};
+ghost use Rattle.cpa_model.specs.declared.facts.Elem.{Elem as AnElem};
 ghost use Rattle.cpa_model.specs.Expressions.{types_of};
-ghost use Rattle.cpa_facts.specs.declared.fact.Fact.{Fact as AFact};
-ghost use Rattle.cpa_predicate.specs.Known.{told, IsKnown, IsKnown-prop};
-ghost use Rattle.cpa_predicate.specs.Transfer.{IsOutcome, NoneOpen};
+ghost use Rattle.cpa_predicate.specs.Known.{told, SayAll, IsKnown, IsKnown-prop};
+ghost use Rattle.cpa_predicate.specs.Transfer.{IsOutcome, NoneOpen, facts_of};
 
 use cpa_expr::{copy, same_expr};
 use cpa_ints::IntType;
-use cpa_model::{Act, Cell, Cfa, Edge, Elem, Expr, Fact, Facts, Seq};
+use cpa_model::{Act, Cell, Cfa, Edge, Expr, Seq, Shared};
 use std::alloc::{AllocError, Global};
 
 /// What is found of a step: the truths of the predicates behind it, or that it leads nowhere.
@@ -21,10 +21,10 @@ pub(crate) type Outcome = Option<Seq<Option<bool>>>;
 pub(crate) struct Known {
     types: Seq<IntType>,
     act: Act,
-    truths: Seq<(Expr, bool)>,
-    preds: Seq<Expr>,
+    preds: Shared<Expr>,
+    said: Seq<Option<bool>>,
     outcome: Option<Seq<Option<bool>>>,
-    ghost is_right: { IsKnown types act truths preds outcome } by { IsKnown-prop types act truths preds outcome },
+    ghost is_right: { IsKnown types act (told (facts_of preds said)) preds outcome } by { IsKnown-prop types act (told (facts_of preds said)) preds outcome },
 }
 
 /// Whether the cells have these types.
@@ -80,41 +80,11 @@ fn same_act(a: &Act, b: &Act) -> bool
     }
 }
 
-/// What is left of the truths behind the one that the fact says, if it says one. Nothing where it
-/// says another one than the first.
-fn behind_said<'a>(fact: &Fact, truths: &'a [(Expr, bool)]) -> Option<&'a [(Expr, bool)]>
-    ensures { IfSome result (λ rest. (facts : List AFact) → told facts ≡ rest.now
-        → told (fact.now ∷ facts) ≡ truths.now) }
+/// Whether the two are the same truths.
+pub(crate) fn same_truths(truths: &[Option<bool>], others: &[Option<bool>]) -> bool
+    ensures { IsTrue result → truths.now ≡ others.now }
 {
-    match fact {
-        Fact::Truth { expr, holds } => match truths {
-            [first, rest @ ..] => {
-                if same_expr(expr, &first.0) && *holds == first.1 {
-                    Some(rest)
-                } else {
-                    None
-                }
-            }
-            [] => None,
-        },
-        Fact::At { .. } | Fact::Stack { .. } | Fact::Equals { .. } | Fact::Within { .. } => {
-            Some(truths)
-        }
-    }
-}
-
-/// Whether these are the truths that the facts say, in their order.
-fn say(facts: &Facts, truths: &[(Expr, bool)]) -> bool
-    ensures { IsTrue result → told facts.now ≡ truths.now }
-{
-    let mut rest = truths;
-    for fact in facts {
-        match behind_said(fact, rest) {
-            Some(behind) => rest = behind,
-            None => return false,
-        }
-    }
-    rest.is_empty()
+    truths == others
 }
 
 /// Whether the two are the same predicates in the same order.
@@ -162,30 +132,6 @@ fn types_of(alloc: Global, cells: &[Cell]) -> Result<Seq<IntType>, AllocError>
     Ok(types)
 }
 
-/// The truths that the facts say of predicates.
-fn told(alloc: Global, facts: &Facts) -> Result<Seq<(Expr, bool)>, AllocError>
-    ensures { IfOk result (λ truths. truths ≡ told facts.now) }
-{
-    let mut truths = Seq::new(alloc);
-    for fact in facts {
-        if let Fact::Truth { expr, holds } = fact {
-            truths.push((copy(alloc, expr)?, *holds))?;
-        }
-    }
-    Ok(truths)
-}
-
-/// Copies of the predicates.
-fn copy_preds(alloc: Global, preds: &[Expr]) -> Result<Seq<Expr>, AllocError>
-    ensures { IfOk result (λ ps. ps ≡ preds.now) }
-{
-    let mut copies = Seq::new(alloc);
-    for p in preds {
-        copies.push(copy(alloc, p)?)?;
-    }
-    Ok(copies)
-}
-
 /// An equal outcome.
 fn copy_outcome(alloc: Global, outcome: &Outcome) -> Result<Outcome, AllocError>
     ensures { IfOk result (λ o. o ≡ outcome.now) }
@@ -196,56 +142,60 @@ fn copy_outcome(alloc: Global, outcome: &Outcome) -> Result<Outcome, AllocError>
     }
 }
 
-/// What is kept of the step along the edge, whose outcome is known.
+/// What is kept of a step along the edge from an element that says these truths of the predicates,
+/// whose outcome is known.
 pub(crate) fn known_step(
     alloc: Global,
     cfa: &Cfa,
     edge: &Edge,
-    elem: &Elem,
-    preds: &[Expr],
+    said: &[Option<bool>],
+    preds: &Shared<Expr>,
     outcome: &Outcome,
 ) -> Result<Known, AllocError>
-    requires { IsOutcome NoneOpen cfa.now elem.now edge.now preds.now outcome.now }
+    requires { (e : AnElem) × SayAll e.facts preds.now said.now
+        × IsOutcome NoneOpen cfa.now e edge.now preds.now outcome.now }
 {
     let types = types_of(alloc, cfa.cells.as_slice())?;
-    let preds = copy_preds(alloc, preds)?;
+    let preds = preds.share()?;
     let outcome = copy_outcome(alloc, outcome)?;
-    let truths = told(alloc, &elem.facts)?;
+    let said = Seq::from_vec(said.to_vec(alloc)?);
     let act = copy_act(alloc, &edge.act)?;
     Ok(Known {
         types,
         act,
-        truths,
         preds,
+        said,
         outcome,
     })
 }
 
-/// Whether what is known is of the step along the edge.
-fn is_of(known: &Known, cfa: &Cfa, edge: &Edge, elem: &Elem, preds: &[Expr]) -> bool
+/// Whether what is known is of a step along the edge, from an element that says these truths of
+/// the predicates.
+fn is_of(known: &Known, cfa: &Cfa, edge: &Edge, said: &[Option<bool>], preds: &[Expr]) -> bool
     ensures { IsTrue result → (types_of cfa.now.cells ≡ known.now.types)
-        × (edge.now.act ≡ known.now.act) × (told elem.now.facts ≡ known.now.truths)
+        × (edge.now.act ≡ known.now.act) × (said.now ≡ known.now.said)
         × (preds.now ≡ known.now.preds) }
 {
     same_act(&edge.act, &known.act)
-        && say(&elem.facts, known.truths.as_slice())
+        && same_truths(said, known.said.as_slice())
         && same_preds(preds, known.preds.as_slice())
         && have_types(cfa.cells.as_slice(), known.types.as_slice())
 }
 
 impl Known {
-    /// The outcome, where it is that of the step along the edge.
+    /// The outcome, where it is that of a step along the edge from an element that says these
+    /// truths of the predicates.
     pub(crate) fn outcome_of(
         &self,
         cfa: &Cfa,
         edge: &Edge,
-        elem: &Elem,
+        said: &[Option<bool>],
         preds: &[Expr],
     ) -> Option<&Outcome>
-        ensures { IfSome result (λ outcome.
-            IsOutcome NoneOpen cfa.now elem.now edge.now preds.now outcome.now) }
+        ensures { IfSome result (λ outcome. (e : AnElem) → SayAll e.facts preds.now said.now
+            → IsOutcome NoneOpen cfa.now e edge.now preds.now outcome.now) }
     {
-        let is_own = is_of(self, cfa, edge, elem, preds);
+        let is_own = is_of(self, cfa, edge, said, preds);
         if is_own { Some(&self.outcome) } else { None }
     }
 }

@@ -12,6 +12,8 @@ mod nearness;
 mod predicate;
 mod refining;
 mod resting;
+mod saying;
+mod settling;
 mod standing;
 mod steps;
 mod table;

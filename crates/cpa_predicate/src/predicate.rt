@@ -129,14 +129,7 @@ impl Analysis for Predicate {
             (SomeBeyond self.old cfa.now elem.now g precision.now.preds) }
     {
         edges_are_sound();
-        successors(
-            alloc,
-            &mut self.asker,
-            cfa,
-            edge,
-            elem,
-            precision.preds.as_slice(),
-        )
+        successors(alloc, &mut self.asker, cfa, edge, elem, &precision.preds)
     }
 
     fn strengthen(

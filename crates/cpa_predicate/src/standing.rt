@@ -1,6 +1,7 @@
-//! Truths that an edge leaves as they are, since it writes no cell that the predicate reads.
+//! Whether an act leaves a predicate, since it writes no cell that this reads; and what an element
+//! says of one.
 
-ghost use Rattle.std.specs.Prelude.{◌≡◌, ◌<◌, ◌≤◌, ◌^◌, ◌-◌, ◌+◌, ℕ, false, Some, IfSome};
+ghost use Rattle.std.specs.Prelude.{◌≡◌, ◌<◌, ◌≤◌, ◌^◌, ◌-◌, ◌+◌, ℕ, false};
 ghost use Rattle.cpa_expr.specs.Cells.{may_read};
 ghost use Rattle.cpa_predicate.specs.Standing.{Writes, said, first_said};
 
@@ -33,7 +34,7 @@ pub(crate) fn may_change(act: &Act, p: &Expr) -> bool
 }
 
 /// The truth that the fact says of the predicate.
-fn said(fact: &Fact, p: &Expr) -> Option<bool>
+pub(crate) fn said(fact: &Fact, p: &Expr) -> Option<bool>
     ensures { result ≡ said p.now fact.now }
 {
     match fact {
@@ -49,7 +50,7 @@ fn said(fact: &Fact, p: &Expr) -> Option<bool>
 }
 
 /// The first truth that the element says of the predicate.
-fn first_said(elem: &Elem, p: &Expr) -> Option<bool>
+pub(crate) fn first_said(elem: &Elem, p: &Expr) -> Option<bool>
     ensures { result ≡ first_said p.now elem.now.facts }
 {
     for fact in &elem.facts {
@@ -59,17 +60,4 @@ fn first_said(elem: &Elem, p: &Expr) -> Option<bool>
         }
     }
     None
-}
-
-/// The truth that the element says of the predicate, where the act leaves it as it is.
-pub(crate) fn standing_truth(elem: &Elem, p: &Expr, act: &Act) -> Option<bool>
-    ensures said { IfSome result (λ holds. first_said p.now elem.now.facts ≡ Some holds) }
-    ensures unread { IfSome result (λ _. (cell : ℕ) → Writes act.now cell → cell < 2 ^ 32 - 1
-        → may_read p.now cell ≡ false) }
-{
-    if may_change(act, p) {
-        None
-    } else {
-        first_said(elem, p)
-    }
 }

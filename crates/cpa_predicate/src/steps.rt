@@ -7,8 +7,17 @@ ghost use Rattle.cpa_predicate.specs.Steps.{is_truth, truths};
 ghost use Rattle.cpa_predicate.specs.Questions.{step_form};
 
 use cpa_edgeform::EdgeForm;
-use cpa_model::{Cfa, Elem, Fact, Seq, copy_fact};
+use cpa_model::{Cfa, Edge, Elem, Fact, Seq, copy_fact};
 use std::alloc::{AllocError, Global};
+
+/// A step along an edge of an automaton from an element.
+pub(crate) struct StepFrom<'a> {
+    pub(crate) cfa: &'a Cfa,
+    /// The edge's number.
+    pub(crate) number: u32,
+    pub(crate) edge: &'a Edge,
+    pub(crate) elem: &'a Elem,
+}
 
 /// Whether the fact is on the truth of a predicate.
 fn is_truth(fact: &Fact) -> bool

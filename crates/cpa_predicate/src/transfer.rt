@@ -12,22 +12,24 @@ ghost use Rattle.cpa_iface.specs.Meanings.{IsShaped};
 ghost use Rattle.cpa_predicate.specs.Predicates.{no_facts};
 ghost use Rattle.cpa_predicate.specs.Questions.{IsStep, Spends, SomeBeyond, IsOpen};
 ghost use Rattle.cpa_predicate.specs.Leading.{AlwaysSteps};
+ghost use Rattle.cpa_predicate.specs.Saying.{AreSayings};
 ghost use Rattle.cpa_predicate.specs.Steps.{is_truth, HasAfter, IsAfter};
 ghost use Rattle.cpa_predicate.specs.Transfer.{IsTruthAfter, AreTruths, IsOutcome, NoneOpen};
 ghost use Rattle.cpa_predicate.specs.Transfer.{IsCartesian, fact_of, facts_of, elems_of};
 
 use crate::asking::{Asker, Budgets, found_truth, sure_truth};
-use crate::known::Outcome;
+use crate::known::{Outcome, same_truths};
 use crate::leading::always_leads_on;
 use crate::nearness::{near_cells, near_truths};
 use crate::resting::{acts_as_skip, skip_along};
-use crate::standing::standing_truth;
-use crate::steps::{says_truth, step_form};
+use crate::saying::{Sayings, first_told, said_by};
+use crate::settling::{first_left, left_truths, settled_truth};
+use crate::steps::{StepFrom, says_truth, step_form};
 use crate::witnesses::{leads_nowhere, mixed_lacking, some_lacks, stores_behind};
 use cpa_edgeform::EdgeForm;
-use cpa_expr::{copy, value_depends_on_what_is_read};
+use cpa_expr::copy;
 use cpa_form_rules::{failing_is_not_holding, forms_are_runs, steps_take_inputs};
-use cpa_model::{Act, Cfa, Edge, Elem, Expr, Fact, Seq, Store, edges_are_sound};
+use cpa_model::{Act, Cfa, Elem, Expr, Fact, Seq, Shared, Store, edges_are_sound};
 use std::alloc::{AllocError, Global};
 
 /// The truth that the predicate has wherever the edge leads, where it follows from the truths of
@@ -35,18 +37,17 @@ use std::alloc::{AllocError, Global};
 fn near_truth(
     alloc: Global,
     asker: &mut Asker,
-    cfa: &Cfa,
-    edge: u32,
-    elem: &Elem,
+    at: &StepFrom<'_>,
     p: &Expr,
     refuted: Refuted,
 ) -> Result<Option<bool>, AllocError>
-    requires automaton { IsAutomaton cfa.now }
-    requires edge { edge < length cfa.now.edges }
-    requires elem { IsShaped cfa.now elem.now }
-    requires predicate { IsExpr cfa.now.cells p.now }
-    ensures truth { IfOk result (λ truth. (g : AnEdge) → slice_get cfa.now.edges edge ≡ Some g
-        → IfSome truth (HasAfter cfa.now elem.now g p.now)) }
+    requires automaton { IsAutomaton at.now.cfa.now }
+    requires number { at.now.number < length at.now.cfa.now.edges }
+    requires at { slice_get at.now.cfa.now.edges at.now.number ≡ Some at.now.edge.now }
+    requires elem { IsShaped at.now.cfa.now at.now.elem.now }
+    requires predicate { IsExpr at.now.cfa.now.cells p.now }
+    ensures truth { IfOk result (λ truth. IfSome truth
+        (HasAfter at.now.cfa.now at.now.elem.now at.now.edge.now p.now)) }
     ensures budgets { asker.new ≡ asker.old }
 {
     edges_are_sound();
@@ -56,10 +57,9 @@ fn near_truth(
     if refuted.is_true && refuted.is_false {
         return Ok(None);
     }
-    let along = cfa.edge(edge);
-    let near = near_truths(alloc, cfa.cells.len(), elem, &along.act, p)?;
-    let step = step_form(alloc, cfa, edge, &near)?;
-    let truth = sure_truth(alloc, asker, &step, p, refuted.is_true, refuted.is_false)?;
+    let near = near_truths(alloc, at.cfa.cells.len(), at.elem, &at.edge.act, p)?;
+    let form = step_form(alloc, at.cfa, at.number, &near)?;
+    let truth = sure_truth(alloc, asker, &form, p, refuted.is_true, refuted.is_false)?;
     Ok(truth)
 }
 
@@ -76,9 +76,7 @@ struct Refuted {
 fn keep_refuting(
     alloc: Global,
     asker: &mut Asker,
-    cfa: &Cfa,
-    edge: &Edge,
-    elem: &Elem,
+    at: &StepFrom<'_>,
     marks: &[bool],
     p: &Expr,
     holds: bool,
@@ -89,7 +87,7 @@ fn keep_refuting(
     if refuted {
         return Ok(true);
     }
-    let lacking = mixed_lacking(alloc, cfa, edge, elem, asker.stores(), marks, p, holds)?;
+    let lacking = mixed_lacking(alloc, at, asker.stores(), marks, p, holds)?;
     match lacking {
         Some(store) => {
             asker.keep_store(alloc, store)?;
@@ -104,9 +102,7 @@ fn keep_refuting(
 fn look_further(
     alloc: Global,
     asker: &mut Asker,
-    cfa: &Cfa,
-    edge: &Edge,
-    elem: &Elem,
+    at: &StepFrom<'_>,
     p: &Expr,
     refuted: Refuted,
 ) -> Result<Refuted, AllocError>
@@ -115,29 +111,9 @@ fn look_further(
     if refuted.is_true && refuted.is_false {
         return Ok(refuted);
     }
-    let marks = near_cells(alloc, cfa.cells.len(), &edge.act, p)?;
-    let is_true = keep_refuting(
-        alloc,
-        asker,
-        cfa,
-        edge,
-        elem,
-        &marks,
-        p,
-        true,
-        refuted.is_true,
-    )?;
-    let is_false = keep_refuting(
-        alloc,
-        asker,
-        cfa,
-        edge,
-        elem,
-        &marks,
-        p,
-        false,
-        refuted.is_false,
-    )?;
+    let marks = near_cells(alloc, at.cfa.cells.len(), &at.edge.act, p)?;
+    let is_true = keep_refuting(alloc, asker, at, &marks, p, true, refuted.is_true)?;
+    let is_false = keep_refuting(alloc, asker, at, &marks, p, false, refuted.is_false)?;
     Ok(Refuted { is_true, is_false })
 }
 
@@ -146,28 +122,26 @@ fn look_further(
 fn whole_truth(
     alloc: Global,
     asker: &mut Asker,
-    cfa: &Cfa,
-    edge: &Edge,
-    elem: &Elem,
-    step: &EdgeForm,
+    at: &StepFrom<'_>,
+    form: &EdgeForm,
     p: &Expr,
 ) -> Result<Option<bool>, AllocError>
-    requires step { IsStep cfa.now elem.now edge.now step.now }
-    requires predicate { IsExpr cfa.now.cells p.now }
+    requires step { IsStep at.now.cfa.now at.now.elem.now at.now.edge.now form.now }
+    requires predicate { IsExpr at.now.cfa.now.cells p.now }
     ensures truth { IfOk result (IsTruthAfter
-        (IsOpen asker.old asker.new cfa.now elem.now edge.now)
-        cfa.now elem.now edge.now p.now) }
+        (IsOpen asker.old asker.new at.now.cfa.now at.now.elem.now at.now.edge.now)
+        at.now.cfa.now at.now.elem.now at.now.edge.now p.now) }
     ensures spends { Spends asker.old asker.new
-        (SomeBeyond asker.old cfa.now elem.now edge.now (p.now ∷ [])) }
+        (SomeBeyond asker.old at.now.cfa.now at.now.elem.now at.now.edge.now (p.now ∷ [])) }
 {
     forms_are_runs();
     failing_is_not_holding();
     steps_take_inputs();
-    let stores = stores_behind(alloc, cfa, edge, elem, asker.stores(), usize::MAX)?;
+    let stores = stores_behind(alloc, at, asker.stores(), usize::MAX)?;
     let behind = stores.as_slice();
     let lacks_true = some_lacks(p, true, behind);
     let lacks_false = some_lacks(p, false, behind);
-    found_truth(alloc, asker, step, p, lacks_true, lacks_false)
+    found_truth(alloc, asker, form, p, lacks_true, lacks_false)
 }
 
 /// The truth that the predicate has wherever the edge leads. Where not both are refuted by stores
@@ -176,77 +150,73 @@ fn whole_truth(
 fn asked_truth(
     alloc: Global,
     asker: &mut Asker,
-    cfa: &Cfa,
-    number: u32,
-    edge: &Edge,
-    elem: &Elem,
-    step: &EdgeForm,
+    at: &StepFrom<'_>,
+    form: &EdgeForm,
     p: &Expr,
     refuted: Refuted,
 ) -> Result<Option<bool>, AllocError>
-    requires number { number < length cfa.now.edges }
-    requires at { slice_get cfa.now.edges number ≡ Some edge.now }
-    requires step { IsStep cfa.now elem.now edge.now step.now }
-    requires predicate { IsExpr cfa.now.cells p.now }
+    requires number { at.now.number < length at.now.cfa.now.edges }
+    requires at { slice_get at.now.cfa.now.edges at.now.number ≡ Some at.now.edge.now }
+    requires step { IsStep at.now.cfa.now at.now.elem.now at.now.edge.now form.now }
+    requires predicate { IsExpr at.now.cfa.now.cells p.now }
     ensures truth { IfOk result (IsTruthAfter
-        (IsOpen asker.old asker.new cfa.now elem.now edge.now)
-        cfa.now elem.now edge.now p.now) }
+        (IsOpen asker.old asker.new at.now.cfa.now at.now.elem.now at.now.edge.now)
+        at.now.cfa.now at.now.elem.now at.now.edge.now p.now) }
     ensures spends { Spends asker.old asker.new
-        (SomeBeyond asker.old cfa.now elem.now edge.now (p.now ∷ [])) }
+        (SomeBeyond asker.old at.now.cfa.now at.now.elem.now at.now.edge.now (p.now ∷ [])) }
 {
-    let refuted = look_further(alloc, asker, cfa, edge, elem, p, refuted)?;
-    let near = near_truth(alloc, asker, cfa, number, elem, p, refuted)?;
+    let refuted = look_further(alloc, asker, at, p, refuted)?;
+    let near = near_truth(alloc, asker, at, p, refuted)?;
     match near {
         Some(holds) => Ok(Some(holds)),
         None => {
-            look_further(alloc, asker, cfa, edge, elem, p, refuted)?;
-            whole_truth(alloc, asker, cfa, edge, elem, step, p)
+            look_further(alloc, asker, at, p, refuted)?;
+            whole_truth(alloc, asker, at, form, p)
         }
     }
 }
 
-/// The truth that the predicate has wherever the edge leads. One that stands in the element is not
-/// asked for, where the edge writes no cell that the predicate may read, and neither is one that is
-/// refuted by a store to which the edge leads.
+/// The truth that the predicate has wherever the edge leads. What is known of it before is not
+/// asked for, and neither is a truth that is refuted by a store to which the edge leads.
 fn truth_after(
     alloc: Global,
     asker: &mut Asker,
-    cfa: &Cfa,
-    number: u32,
-    edge: &Edge,
-    elem: &Elem,
-    step: &EdgeForm,
+    at: &StepFrom<'_>,
+    form: &EdgeForm,
     behind: &[Store],
     p: &Expr,
+    settled: Option<Option<bool>>,
 ) -> Result<Option<bool>, AllocError>
-    requires number { number < length cfa.now.edges }
-    requires at { slice_get cfa.now.edges number ≡ Some edge.now }
-    requires step { IsStep cfa.now elem.now edge.now step.now }
-    requires behind { AllByRecursion (IsAfter cfa.now elem.now edge.now) behind.now }
-    requires predicate { IsExpr cfa.now.cells p.now }
+    requires number { at.now.number < length at.now.cfa.now.edges }
+    requires at { slice_get at.now.cfa.now.edges at.now.number ≡ Some at.now.edge.now }
+    requires step { IsStep at.now.cfa.now at.now.elem.now at.now.edge.now form.now }
+    requires behind { AllByRecursion (IsAfter at.now.cfa.now at.now.elem.now at.now.edge.now)
+        behind.now }
+    requires predicate { IsExpr at.now.cfa.now.cells p.now }
+    requires settled { IfSome settled
+        (IsTruthAfter NoneOpen at.now.cfa.now at.now.elem.now at.now.edge.now p.now) }
     ensures truth { IfOk result (IsTruthAfter
-        (IsOpen asker.old asker.new cfa.now elem.now edge.now)
-        cfa.now elem.now edge.now p.now) }
+        (IsOpen asker.old asker.new at.now.cfa.now at.now.elem.now at.now.edge.now)
+        at.now.cfa.now at.now.elem.now at.now.edge.now p.now) }
     ensures spends { Spends asker.old asker.new
-        (SomeBeyond asker.old cfa.now elem.now edge.now (p.now ∷ [])) }
+        (SomeBeyond asker.old at.now.cfa.now at.now.elem.now at.now.edge.now (p.now ∷ [])) }
 {
     forms_are_runs();
     failing_is_not_holding();
     steps_take_inputs();
-    value_depends_on_what_is_read();
-    match standing_truth(elem, p, &edge.act) {
-        Some(holds) => Ok(Some(holds)),
+    match settled {
+        Some(truth) => Ok(truth),
         None => {
             let lacks_true = some_lacks(p, true, behind);
             let lacks_false = some_lacks(p, false, behind);
             if lacks_true && lacks_false {
-                return found_truth(alloc, asker, step, p, lacks_true, lacks_false);
+                return found_truth(alloc, asker, form, p, lacks_true, lacks_false);
             }
             let refuted = Refuted {
                 is_true: lacks_true,
                 is_false: lacks_false,
             };
-            asked_truth(alloc, asker, cfa, number, edge, elem, step, p, refuted)
+            asked_truth(alloc, asker, at, form, p, refuted)
         }
     }
 }
@@ -255,29 +225,37 @@ fn truth_after(
 fn truths_after(
     alloc: Global,
     asker: &mut Asker,
-    cfa: &Cfa,
-    number: u32,
-    edge: &Edge,
-    elem: &Elem,
-    step: &EdgeForm,
+    at: &StepFrom<'_>,
+    form: &EdgeForm,
     behind: &[Store],
+    said: &Sayings,
     preds: &[Expr],
 ) -> Result<Seq<Option<bool>>, AllocError>
-    requires number { number < length cfa.now.edges }
-    requires at { slice_get cfa.now.edges number ≡ Some edge.now }
-    requires step { IsStep cfa.now elem.now edge.now step.now }
-    requires behind { AllByRecursion (IsAfter cfa.now elem.now edge.now) behind.now }
-    requires preds { AllByRecursion (IsExpr cfa.now.cells) preds.now }
+    requires number { at.now.number < length at.now.cfa.now.edges }
+    requires at { slice_get at.now.cfa.now.edges at.now.number ≡ Some at.now.edge.now }
+    requires step { IsStep at.now.cfa.now at.now.elem.now at.now.edge.now form.now }
+    requires behind { AllByRecursion (IsAfter at.now.cfa.now at.now.elem.now at.now.edge.now)
+        behind.now }
+    requires preds { AllByRecursion (IsExpr at.now.cfa.now.cells) preds.now }
+    requires said { AreSayings at.now.elem.now.facts preds.now said.now }
     ensures truths { IfOk result (AreTruths
-        (IsOpen asker.old asker.new cfa.now elem.now edge.now)
-        cfa.now elem.now edge.now preds.now) }
+        (IsOpen asker.old asker.new at.now.cfa.now at.now.elem.now at.now.edge.now)
+        at.now.cfa.now at.now.elem.now at.now.edge.now preds.now) }
     ensures spends { Spends asker.old asker.new
-        (SomeBeyond asker.old cfa.now elem.now edge.now preds.now) }
+        (SomeBeyond asker.old at.now.cfa.now at.now.elem.now at.now.edge.now preds.now) }
 {
+    let left = left_truths(alloc, asker, at.cfa, at.edge, at.elem, said, preds)?;
+    let mut left_rest = left.as_slice();
+    let mut told_rest = said.truths.as_slice();
     let mut truths = Seq::new(alloc);
     for p in preds {
-        let truth = truth_after(alloc, asker, cfa, number, edge, elem, step, behind, p)?;
+        let (told, told_more) = first_told(told_rest);
+        let (left, left_more) = first_left(left_rest);
+        let settled = settled_truth(&at.edge.act, p, told, left);
+        let truth = truth_after(alloc, asker, at, form, behind, p, settled)?;
         truths.push(truth)?;
+        told_rest = told_more;
+        left_rest = left_more;
     }
     Ok(truths)
 }
@@ -301,17 +279,16 @@ fn stores_wanted(preds: &[Expr]) -> usize {
 fn or_new_ones(
     alloc: Global,
     asker: &Asker,
-    cfa: &Cfa,
-    edge: &Edge,
-    elem: &Elem,
+    at: &StepFrom<'_>,
     stores: Vec<Store>,
 ) -> Result<Vec<Store>, AllocError>
-    requires { AllByRecursion (IsAfter cfa.now elem.now edge.now) stores.items }
+    requires { AllByRecursion (IsAfter at.now.cfa.now at.now.elem.now at.now.edge.now)
+        stores.items }
     ensures { IfOk result (λ found.
-        AllByRecursion (IsAfter cfa.now elem.now edge.now) found.items) }
+        AllByRecursion (IsAfter at.now.cfa.now at.now.elem.now at.now.edge.now) found.items) }
 {
     if stores.is_empty() {
-        stores_behind(alloc, cfa, edge, elem, asker.stores(), usize::MAX)
+        stores_behind(alloc, at, asker.stores(), usize::MAX)
     } else {
         Ok(stores)
     }
@@ -324,12 +301,14 @@ fn outcome_of(
     cfa: &Cfa,
     edge: u32,
     elem: &Elem,
+    said: &Sayings,
     preds: &[Expr],
 ) -> Result<Outcome, AllocError>
     requires automaton { IsAutomaton cfa.now }
     requires edge { edge < length cfa.now.edges }
     requires elem { IsShaped cfa.now elem.now }
     requires preds { AllByRecursion (IsExpr cfa.now.cells) preds.now }
+    requires said { AreSayings elem.now.facts preds.now said.now }
     ensures outcome { IfOk result (λ outcome. (g : AnEdge) → slice_get cfa.now.edges edge ≡ Some g
         → IsOutcome (IsOpen asker.old asker.new cfa.now elem.now g) cfa.now elem.now g
         preds.now outcome) }
@@ -340,14 +319,13 @@ fn outcome_of(
     forms_are_runs();
     steps_take_inputs();
     let along = cfa.edge(edge);
-    let stores = stores_behind(
-        alloc,
+    let at = StepFrom {
         cfa,
-        along,
+        number: edge,
+        edge: along,
         elem,
-        asker.stores(),
-        stores_wanted(preds),
-    )?;
+    };
+    let stores = stores_behind(alloc, &at, asker.stores(), stores_wanted(preds))?;
     let behind = stores.as_slice();
     let settled = is_settled(preds, behind);
     if settled {
@@ -355,13 +333,13 @@ fn outcome_of(
         return Ok(Some(none));
     }
     let step = step_form(alloc, cfa, edge, elem)?;
-    let never = leads_nowhere(alloc, asker, cfa, along, elem, &step, behind)?;
+    let never = leads_nowhere(alloc, asker, &at, &step, behind)?;
     if never {
         return Ok(None);
     }
-    let stores = or_new_ones(alloc, asker, cfa, along, elem, stores)?;
+    let stores = or_new_ones(alloc, asker, &at, stores)?;
     let behind = stores.as_slice();
-    let truths = truths_after(alloc, asker, cfa, edge, along, elem, &step, behind, preds)?;
+    let truths = truths_after(alloc, asker, &at, &step, behind, said, preds)?;
     Ok(Some(truths))
 }
 
@@ -380,9 +358,7 @@ const KEPT_BEHIND: usize = 2;
 fn keep_behind(
     alloc: Global,
     asker: &mut Asker,
-    cfa: &Cfa,
-    edge: &Edge,
-    elem: &Elem,
+    at: &StepFrom<'_>,
     preds: &[Expr],
 ) -> Result<(), AllocError>
     ensures { asker.new ≡ asker.old }
@@ -390,7 +366,7 @@ fn keep_behind(
     if preds.is_empty() {
         return Ok(());
     }
-    let mut behind = stores_behind(alloc, cfa, edge, elem, asker.stores(), KEPT_BEHIND)?;
+    let mut behind = stores_behind(alloc, at, asker.stores(), KEPT_BEHIND)?;
     if let Some(other) = behind.pop() {
         asker.keep_store(alloc, other)?;
     }
@@ -400,100 +376,109 @@ fn keep_behind(
     Ok(())
 }
 
-/// The outcome that is kept of the step along the edge, or of a skip where that has the same one.
+/// The outcome that is kept of the step, or of a skip where that has the same one.
 fn known_outcome<'a>(
     asker: &'a Asker,
-    cfa: &Cfa,
-    edge: &Edge,
-    elem: &Elem,
+    at: &StepFrom<'_>,
+    said: &Sayings,
     preds: &[Expr],
 ) -> Option<&'a Outcome>
-    requires automaton { IsAutomaton cfa.now }
-    requires act { IsActOf cfa.now edge.now.act }
-    ensures { IfSome result (λ outcome.
-        IsOutcome NoneOpen cfa.now elem.now edge.now preds.now outcome.now) }
+    requires automaton { IsAutomaton at.now.cfa.now }
+    requires act { IsActOf at.now.cfa.now at.now.edge.now.act }
+    requires said { AreSayings at.now.elem.now.facts preds.now said.now }
+    ensures { IfSome result (λ outcome. IsOutcome NoneOpen at.now.cfa.now at.now.elem.now
+        at.now.edge.now preds.now outcome.now) }
 {
-    let as_skip = acts_as_skip(&edge.act, preds);
+    if !said.is_all {
+        return None;
+    }
+    let as_skip = acts_as_skip(&at.edge.act, preds);
     if as_skip {
-        let skip = skip_along(edge);
-        match asker.outcome_of(cfa, &skip, elem, preds) {
-            Some(outcome) => Some(outcome),
-            None => None,
-        }
+        let skip = skip_along(at.edge);
+        asker.outcome_of(at.cfa, &skip, said.truths.as_slice(), preds)
     } else {
-        asker.outcome_of(cfa, edge, elem, preds)
+        asker.outcome_of(at.cfa, at.edge, said.truths.as_slice(), preds)
     }
 }
 
-/// Keeps the outcome of the step along the edge, or that of a skip where it is the same one.
+/// Keeps the outcome of the step, or that of a skip where it is the same one.
 fn keep_outcome(
     alloc: Global,
     asker: &mut Asker,
-    cfa: &Cfa,
-    edge: &Edge,
-    elem: &Elem,
-    preds: &[Expr],
+    at: &StepFrom<'_>,
+    said: &Sayings,
+    preds: &Shared<Expr>,
     outcome: &Outcome,
 ) -> Result<(), AllocError>
-    requires automaton { IsAutomaton cfa.now }
-    requires act { IsActOf cfa.now edge.now.act }
-    requires outcome { IsOutcome NoneOpen cfa.now elem.now edge.now preds.now outcome.now }
+    requires automaton { IsAutomaton at.now.cfa.now }
+    requires act { IsActOf at.now.cfa.now at.now.edge.now.act }
+    requires said { AreSayings at.now.elem.now.facts preds.now said.now }
+    requires outcome { IsOutcome NoneOpen at.now.cfa.now at.now.elem.now at.now.edge.now
+        preds.now outcome.now }
     ensures { asker.new ≡ asker.old }
 {
-    let as_skip = acts_as_skip(&edge.act, preds);
+    if !said.is_all {
+        return Ok(());
+    }
+    let as_skip = acts_as_skip(&at.edge.act, preds.as_slice());
     if as_skip {
-        let skip = skip_along(edge);
-        asker.keep_outcome(alloc, cfa, &skip, elem, preds, outcome)
+        let skip = skip_along(at.edge);
+        asker.keep_outcome(alloc, at.cfa, &skip, said.truths.as_slice(), preds, outcome)
     } else {
-        asker.keep_outcome(alloc, cfa, edge, elem, preds, outcome)
+        asker.keep_outcome(
+            alloc,
+            at.cfa,
+            at.edge,
+            said.truths.as_slice(),
+            preds,
+            outcome,
+        )
     }
 }
 
-/// Keeps the outcome of a skip behind the step: the truths that were found, and no others.
+/// Keeps the outcome of a skip after the step: the truths that were found, and no others.
 fn keep_rest(
     alloc: Global,
     asker: &mut Asker,
-    cfa: &Cfa,
-    edge: &Edge,
-    _elem: &Elem,
-    preds: &[Expr],
+    at: &StepFrom<'_>,
+    preds: &Shared<Expr>,
     outcome: &Outcome,
 ) -> Result<(), AllocError>
-    requires act { IsActOf cfa.now edge.now.act }
-    requires outcome { IsOutcome NoneOpen cfa.now _elem.now edge.now preds.now outcome.now }
+    requires act { IsActOf at.now.cfa.now at.now.edge.now.act }
+    requires outcome { IsOutcome NoneOpen at.now.cfa.now at.now.elem.now at.now.edge.now
+        preds.now outcome.now }
     ensures { asker.new ≡ asker.old }
 {
     if let Some(truths) = outcome {
-        let after = elem_of(alloc, preds, truths.as_slice())?;
-        let skip = skip_along(edge);
-        asker.keep_outcome(alloc, cfa, &skip, &after, preds, outcome)?;
+        let skip = skip_along(at.edge);
+        asker.keep_outcome(alloc, at.cfa, &skip, truths.as_slice(), preds, outcome)?;
     }
     Ok(())
 }
 
-/// Keeps stores behind the step, its outcome, and that of a skip from there, if all that was asked
+/// Keeps stores after the step, its outcome, and that of a skip from there, if all that was asked
 /// since `before` was decided.
 fn keep_decided(
     alloc: Global,
     asker: &mut Asker,
     before: Budgets,
-    cfa: &Cfa,
-    edge: &Edge,
-    elem: &Elem,
-    preds: &[Expr],
+    at: &StepFrom<'_>,
+    said: &Sayings,
+    preds: &Shared<Expr>,
     outcome: &Outcome,
 ) -> Result<(), AllocError>
-    requires automaton { IsAutomaton cfa.now }
-    requires act { IsActOf cfa.now edge.now.act }
-    requires outcome { IsOutcome (IsOpen before asker.old cfa.now elem.now edge.now) cfa.now
-        elem.now edge.now preds.now outcome.now }
+    requires automaton { IsAutomaton at.now.cfa.now }
+    requires act { IsActOf at.now.cfa.now at.now.edge.now.act }
+    requires said { AreSayings at.now.elem.now.facts preds.now said.now }
+    requires outcome { IsOutcome (IsOpen before asker.old at.now.cfa.now at.now.elem.now
+        at.now.edge.now) at.now.cfa.now at.now.elem.now at.now.edge.now preds.now outcome.now }
     ensures { asker.new ≡ asker.old }
 {
-    keep_behind(alloc, asker, cfa, edge, elem, preds)?;
+    keep_behind(alloc, asker, at, preds.as_slice())?;
     let decided = all_decided(before, asker.budgets());
     if decided {
-        keep_outcome(alloc, asker, cfa, edge, elem, preds, outcome)?;
-        keep_rest(alloc, asker, cfa, edge, elem, preds, outcome)?;
+        keep_outcome(alloc, asker, at, said, preds, outcome)?;
+        keep_rest(alloc, asker, at, preds, outcome)?;
     }
     Ok(())
 }
@@ -541,19 +526,47 @@ fn elem_of(alloc: Global, preds: &[Expr], truths: &[Option<bool>]) -> Result<Ele
     Elem::new(alloc, facts)
 }
 
-/// The elements behind a step with this outcome.
-fn elems_of(alloc: Global, preds: &[Expr], outcome: &Outcome) -> Result<Vec<Elem>, AllocError>
+/// The element of these truths of the predicates, which shares the facts of one that says them.
+fn elem_after(
+    alloc: Global,
+    elem: &Elem,
+    said: &Sayings,
+    preds: &[Expr],
+    truths: &[Option<bool>],
+) -> Result<Elem, AllocError>
+    requires { AreSayings elem.now.facts preds.now said.now }
+    ensures { IfOk result (λ e. e.facts ≡ facts_of preds.now truths.now) }
+{
+    let stays = said.is_all && same_truths(said.truths.as_slice(), truths);
+    if stays {
+        Ok(Elem {
+            facts: elem.facts.share()?,
+        })
+    } else {
+        elem_of(alloc, preds, truths)
+    }
+}
+
+/// The elements after a step with this outcome.
+fn elems_of(
+    alloc: Global,
+    elem: &Elem,
+    said: &Sayings,
+    preds: &[Expr],
+    outcome: &Outcome,
+) -> Result<Vec<Elem>, AllocError>
+    requires { AreSayings elem.now.facts preds.now said.now }
     ensures { IfOk result (λ es. es.items ≡ elems_of preds.now outcome.now) }
 {
     let mut elems = Vec::new(alloc);
     if let Some(truths) = outcome {
-        elems.push(elem_of(alloc, preds, truths.as_slice())?)?;
+        elems.push(elem_after(alloc, elem, said, preds, truths.as_slice())?)?;
     }
     Ok(elems)
 }
 
-/// Whether nothing is to be asked of a step by the act: no predicate is to be looked at, the
-/// element says no truth, and the act leads on from each store.
+/// Whether nothing is to be asked of a step by the act: no predicate is to be looked at, the element
+/// says no truth, and the act leads on from each store.
 fn asks_nothing(act: &Act, elem: &Elem, preds: &[Expr]) -> bool
     ensures { IsTrue result → (preds.now ≡ []) × (filter is_truth elem.now.facts ≡ [])
         × ((cfa : ACfa) → IsActOf cfa act.now → AlwaysSteps cfa act.now) }
@@ -578,7 +591,7 @@ pub(crate) fn successors(
     cfa: &Cfa,
     edge: u32,
     elem: &Elem,
-    preds: &[Expr],
+    preds: &Shared<Expr>,
 ) -> Result<Vec<Elem>, AllocError>
     requires automaton { IsAutomaton cfa.now }
     requires edge { edge < length cfa.now.edges }
@@ -592,18 +605,24 @@ pub(crate) fn successors(
 {
     edges_are_sound();
     let along = cfa.edge(edge);
-    let free = asks_nothing(&along.act, elem, preds);
+    let free = asks_nothing(&along.act, elem, preds.as_slice());
     if free {
-        let alone = no_facts_alone(alloc)?;
-        return Ok(alone);
+        return no_facts_alone(alloc);
     }
-    if let Some(outcome) = known_outcome(asker, cfa, along, elem, preds) {
-        let elems = elems_of(alloc, preds, outcome)?;
+    let said = said_by(alloc, elem, preds.as_slice())?;
+    let at = StepFrom {
+        cfa,
+        number: edge,
+        edge: along,
+        elem,
+    };
+    if let Some(outcome) = known_outcome(asker, &at, &said, preds.as_slice()) {
+        let elems = elems_of(alloc, elem, &said, preds.as_slice(), outcome)?;
         return Ok(elems);
     }
     let before = asker.budgets();
-    let outcome = outcome_of(alloc, asker, cfa, edge, elem, preds)?;
-    keep_decided(alloc, asker, before, cfa, along, elem, preds, &outcome)?;
-    let elems = elems_of(alloc, preds, &outcome)?;
+    let outcome = outcome_of(alloc, asker, cfa, edge, elem, &said, preds.as_slice())?;
+    keep_decided(alloc, asker, before, &at, &said, preds, &outcome)?;
+    let elems = elems_of(alloc, elem, &said, preds.as_slice(), &outcome)?;
     Ok(elems)
 }

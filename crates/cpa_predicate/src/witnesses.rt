@@ -15,10 +15,11 @@ ghost use Rattle.cpa_predicate.specs.Questions.{IsStep, IsUndecided, IsBeyond, S
 ghost use Rattle.cpa_predicate.specs.Steps.{is_truth, truths, IsAfter, SomeLacks};
 
 use crate::asking::{Asker, is_never};
+use crate::steps::StepFrom;
 use cpa_edgeform::EdgeForm;
 use cpa_form_rules::{forms_are_runs, steps_take_inputs};
 use cpa_interp::{assign, put};
-use cpa_model::{Act, Cell, Cfa, Edge, Elem, Expr, Fact, Seq, Store, has_truth};
+use cpa_model::{Act, Cell, Elem, Expr, Fact, Seq, Store, has_truth};
 use std::alloc::{AllocError, Global};
 
 /// Whether each of the numbers is a value of its cell's type.
@@ -115,23 +116,18 @@ fn admits(act: &Act, store: &Store) -> bool {
 
 /// The store to which the edge leads from this one, where the predicates of the element have their
 /// truths on it.
-fn behind(
-    alloc: Global,
-    cfa: &Cfa,
-    edge: &Edge,
-    elem: &Elem,
-    store: &Store,
-) -> Result<Option<Store>, AllocError>
-    ensures { IfOk result (λ found. IfSome found (IsAfter cfa.now elem.now edge.now)) }
+fn behind(alloc: Global, at: &StepFrom<'_>, store: &Store) -> Result<Option<Store>, AllocError>
+    ensures { IfOk result (λ found.
+        IfSome found (IsAfter at.now.cfa.now at.now.elem.now at.now.edge.now)) }
 {
-    if !admits(&edge.act, store) || !has_truths(elem, store) {
+    if !admits(&at.edge.act, store) || !has_truths(at.elem, store) {
         return Ok(None);
     }
-    if !are_values(cfa.cells.as_slice(), store.values.as_slice()) {
+    if !are_values(at.cfa.cells.as_slice(), store.values.as_slice()) {
         return Ok(None);
     }
     let mut new = copy_of(alloc, store)?;
-    let steps = step(alloc, cfa.cells.as_slice(), &edge.act, &mut new);
+    let steps = step(alloc, at.cfa.cells.as_slice(), &at.edge.act, &mut new);
     Ok(if steps { Some(new) } else { None })
 }
 
@@ -139,21 +135,19 @@ fn behind(
 /// element have their truths, from the newest one on, and at most so many.
 pub(crate) fn stores_behind(
     alloc: Global,
-    cfa: &Cfa,
-    edge: &Edge,
-    elem: &Elem,
+    at: &StepFrom<'_>,
     stores: &[Store],
     most: usize,
 ) -> Result<Vec<Store>, AllocError>
-    ensures { IfOk result (λ found.
-        AllByRecursion (IsAfter cfa.now elem.now edge.now) found.items) }
+    ensures { IfOk result (λ found. AllByRecursion
+        (IsAfter at.now.cfa.now at.now.elem.now at.now.edge.now) found.items) }
 {
     let mut found = Vec::new(alloc);
     for store in stores.iter().rev() {
         if found.len() >= most {
             return Ok(found);
         }
-        if let Some(new) = behind(alloc, cfa, edge, elem, store)? {
+        if let Some(new) = behind(alloc, at, store)? {
             found.push(new)?;
         }
     }
@@ -198,40 +192,37 @@ fn mixed(alloc: Global, store: &Store, other: &Store, marks: &[bool]) -> Result<
 /// Whether the edge leads from the store to one on which the expression has not this truth.
 fn leads_to_lack(
     alloc: Global,
-    cfa: &Cfa,
-    edge: &Edge,
+    at: &StepFrom<'_>,
     store: &Store,
     p: &Expr,
     holds: bool,
 ) -> Result<bool, AllocError> {
-    if !admits(&edge.act, store) {
+    if !admits(&at.edge.act, store) {
         return Ok(false);
     }
     let mut new = copy_of(alloc, store)?;
-    let steps = step(alloc, cfa.cells.as_slice(), &edge.act, &mut new);
+    let steps = step(alloc, at.cfa.cells.as_slice(), &at.edge.act, &mut new);
     Ok(steps && !has_truth(p, holds, &new))
 }
 
 /// A store on which the predicates of the element have their truths, and from which the edge leads
 /// to one on which the expression has not this truth, if one comes of the stores: it has the values
-/// of the newest one that serves in the marked cells, and else those of the newest one on which the
-/// predicates have their truths. What is cheap is looked at first.
+/// of the newest one that serves in the marked cells, and else those of one on which the predicates
+/// have their truths. What is cheap is looked at first.
 pub(crate) fn mixed_lacking(
     alloc: Global,
-    cfa: &Cfa,
-    edge: &Edge,
-    elem: &Elem,
+    at: &StepFrom<'_>,
     stores: &[Store],
     marks: &[bool],
     p: &Expr,
     holds: bool,
 ) -> Result<Option<Store>, AllocError> {
-    let Some(own) = newest_with_truths(elem, stores) else {
+    let Some(own) = newest_with_truths(at.elem, stores) else {
         return Ok(None);
     };
     for other in stores.iter().rev() {
         let store = mixed(alloc, own, other, marks)?;
-        if leads_to_lack(alloc, cfa, edge, &store, p, holds)? && has_truths(elem, &store) {
+        if leads_to_lack(alloc, at, &store, p, holds)? && has_truths(at.elem, &store) {
             return Ok(Some(store));
         }
     }
@@ -243,14 +234,13 @@ pub(crate) fn mixed_lacking(
 pub(crate) fn leads_nowhere(
     alloc: Global,
     asker: &mut Asker,
-    _cfa: &Cfa,
-    _edge: &Edge,
-    _elem: &Elem,
+    _at: &StepFrom<'_>,
     form: &EdgeForm,
     behind: &[Store],
 ) -> Result<bool, AllocError>
-    requires step { IsStep _cfa.now _elem.now _edge.now form.now }
-    requires behind { AllByRecursion (IsAfter _cfa.now _elem.now _edge.now) behind.now }
+    requires step { IsStep _at.now.cfa.now _at.now.elem.now _at.now.edge.now form.now }
+    requires behind { AllByRecursion
+        (IsAfter _at.now.cfa.now _at.now.elem.now _at.now.edge.now) behind.now }
     ensures yes { IfOk result (λ never. IsTrue never → HasNoModel form.now.query) }
     ensures no { IfOk result (λ never. never ≡ false → HasNoModel form.now.query
         → IsUndecided asker.old asker.new form.now) }

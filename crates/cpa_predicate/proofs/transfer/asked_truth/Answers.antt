@@ -10,15 +10,15 @@ use Rattle.cpa_predicate.proofs.transfer.asked_truth.Goals as goal
 pub returns-in-Some-clause-truth : goal.returns-in-Some-clause-truth
 returns-in-Some-clause-truth c =
     subst (λ (truth : Option Bool).
-    IfSome truth (HasAfter c.args.cfa.now c.args.elem.now c.args.edge.now c.args.p.now))
-    c.in-Some.is (c.in_ok-near.ensures.truth c.args.edge.now c.requires.at)
+    IfSome truth (HasAfter c.args.at.now.cfa.now c.args.at.now.elem.now c.args.at.now.edge.now c.args.p.now))
+    c.in-Some.is (c.in_ok-near.ensures.truth c.args.at.now.edge.now c.requires.at)
 
 pub returns-in_ok-look_further-in-None-clause-truth :
     goal.returns-in_ok-look_further-in-None-clause-truth
 returns-in_ok-look_further-in-None-clause-truth c =
-    let cfa = c.args.cfa.now in
-    let e = c.args.elem.now in
-    let g = c.args.edge.now in
+    let cfa = c.args.at.now.cfa.now in
+    let e = c.args.at.now.elem.now in
+    let g = c.args.at.now.edge.now in
     let after = c.whole_truth.new.asker in
     subst (λ (b : Budgets). IfOk c.whole_truth.result
     (IsTruthAfter (IsOpen b after cfa e g) cfa e g c.args.p.now))
@@ -28,9 +28,9 @@ returns-in_ok-look_further-in-None-clause-truth c =
 pub returns-in_ok-look_further-in-None-clause-spends :
     goal.returns-in_ok-look_further-in-None-clause-spends
 returns-in_ok-look_further-in-None-clause-spends c =
-    let cfa = c.args.cfa.now in
-    let e = c.args.elem.now in
-    let g = c.args.edge.now in
+    let cfa = c.args.at.now.cfa.now in
+    let e = c.args.at.now.elem.now in
+    let g = c.args.at.now.edge.now in
     subst (λ (b : Budgets). Spends b c.whole_truth.new.asker
     (SomeBeyond b cfa e g (c.args.p.now ∷ [])))
     (c.look_further-in-None.ensures ∙ c.near_truth.ensures.budgets ∙ c.look_further.ensures)

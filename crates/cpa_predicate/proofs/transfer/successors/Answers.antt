@@ -1,6 +1,10 @@
 -- What is known, or found out, is given.
 use Rattle.std.proofs.Common.{sym, ◌∙◌, subst}
+use Rattle.std.specs.declared.alloc.Global.{Global}
+use Rattle.std.specs.declared.vec.Vec.{Vec}
 use Rattle.std.proofs.lemmas.Option.{same_Some}
+use Rattle.std.proofs.lemmas.Result.{IfOk-weaker}
+use Rattle.cpa_model.specs.declared.facts.Elem.{Elem}
 use Rattle.cpa_predicate.specs.declared.asking.Budgets.{Budgets}
 use Rattle.cpa_predicate.specs.Questions.{IsOpen}
 use Rattle.cpa_predicate.specs.Transfer.{IsOutcome}
@@ -33,11 +37,11 @@ returns-then-free-clause-known c =
     let e = c.args.elem.now in
     let along = c.edge-along.result.now in
     let b = c.args.asker.now in
-    λ g at.
-    free_gives (IsOpen b b cfa e g) cfa e g along c.args.preds.now c.in_ok-alone.alone.items
+    IfOk-weaker _ _ _ (λ (es : Vec Elem Global) are. λ g at.
+    free_gives (IsOpen b b cfa e g) cfa e g along c.args.preds.now es.items
     (same_Some _ _ (sym c.edge-along.ensures ∙ at)) c.requires.automaton
     (c.edges_are_sound.ensures cfa c.args.edge along c.requires.automaton c.edge-along.ensures).act
-    (c.asks_nothing-free.ensures c.if-free.true) c.in_ok-alone.ensures
+    (c.asks_nothing-free.ensures c.if-free.true) are) c.no_facts_alone.ensures
 
 pub returns-in-Some-clause-known : goal.returns-in-Some-clause-known
 returns-in-Some-clause-known c = λ g at.

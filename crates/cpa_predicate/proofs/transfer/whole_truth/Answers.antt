@@ -11,36 +11,36 @@ use Rattle.cpa_predicate.proofs.transfer.whole_truth.Goals as goal
 
 pub found_truth-requires-clause-asked : goal.found_truth-requires-clause-asked
 found_truth-requires-clause-asked c =
-    asked_of c.args.cfa.now c.args.elem.now c.args.edge.now c.args.step.now c.requires.step
+    asked_of c.args.at.now.cfa.now c.args.at.now.elem.now c.args.at.now.edge.now c.args.form.now c.requires.step
     c.args.p.now c.requires.predicate c.forms_are_runs.ensures c.steps_take_inputs.ensures
     c.failing_is_not_holding.ensures
 
 pub found_truth-requires-clause-lacks_true : goal.found_truth-requires-clause-lacks_true
 found_truth-requires-clause-lacks_true c = λ lacks none.
-    lacking_refutes c.args.cfa.now c.args.elem.now c.args.edge.now c.args.p.now true
+    lacking_refutes c.args.at.now.cfa.now c.args.at.now.elem.now c.args.at.now.edge.now c.args.p.now true
     c.as_slice-behind.result.now
-    (subst (AllByRecursion (IsAfter c.args.cfa.now c.args.elem.now c.args.edge.now))
+    (subst (AllByRecursion (IsAfter c.args.at.now.cfa.now c.args.at.now.elem.now c.args.at.now.edge.now))
     (sym c.as_slice-behind.ensures.value) c.in_ok-stores.ensures)
     (c.some_lacks-lacks_true.ensures lacks)
-    (found_is c.args.cfa.now c.args.elem.now c.args.edge.now c.args.step.now c.requires.step
+    (found_is c.args.at.now.cfa.now c.args.at.now.elem.now c.args.at.now.edge.now c.args.form.now c.requires.step
     c.args.p.now c.requires.predicate c.forms_are_runs.ensures c.steps_take_inputs.ensures
     c.failing_is_not_holding.ensures c.args.asker.now c.args.asker.now (Some true) none)
 
 pub found_truth-requires-clause-lacks_false : goal.found_truth-requires-clause-lacks_false
 found_truth-requires-clause-lacks_false c = λ lacks none.
-    lacking_refutes c.args.cfa.now c.args.elem.now c.args.edge.now c.args.p.now false
+    lacking_refutes c.args.at.now.cfa.now c.args.at.now.elem.now c.args.at.now.edge.now c.args.p.now false
     c.as_slice-behind.result.now
-    (subst (AllByRecursion (IsAfter c.args.cfa.now c.args.elem.now c.args.edge.now))
+    (subst (AllByRecursion (IsAfter c.args.at.now.cfa.now c.args.at.now.elem.now c.args.at.now.edge.now))
     (sym c.as_slice-behind.ensures.value) c.in_ok-stores.ensures)
     (c.some_lacks-lacks_false.ensures lacks)
-    (found_is c.args.cfa.now c.args.elem.now c.args.edge.now c.args.step.now c.requires.step
+    (found_is c.args.at.now.cfa.now c.args.at.now.elem.now c.args.at.now.edge.now c.args.form.now c.requires.step
     c.args.p.now c.requires.predicate c.forms_are_runs.ensures c.steps_take_inputs.ensures
     c.failing_is_not_holding.ensures c.args.asker.now c.args.asker.now (Some false) none)
 
 pub returns-clause-truth : goal.returns-clause-truth
 returns-clause-truth c =
     IfOk-weaker _ _ _ (λ (truth : Option Bool) found.
-    found_is c.args.cfa.now c.args.elem.now c.args.edge.now c.args.step.now c.requires.step
+    found_is c.args.at.now.cfa.now c.args.at.now.elem.now c.args.at.now.edge.now c.args.form.now c.requires.step
     c.args.p.now c.requires.predicate c.forms_are_runs.ensures c.steps_take_inputs.ensures
     c.failing_is_not_holding.ensures c.args.asker.now c.found_truth.new.asker truth found)
     c.found_truth.ensures.found
@@ -48,6 +48,6 @@ returns-clause-truth c =
 pub returns-clause-spends : goal.returns-clause-spends
 returns-clause-spends c =
     caused _ _ _ _ c.found_truth.ensures.spends
-    (some_beyond c.args.cfa.now c.args.elem.now c.args.edge.now c.args.step.now c.requires.step
+    (some_beyond c.args.at.now.cfa.now c.args.at.now.elem.now c.args.at.now.edge.now c.args.form.now c.requires.step
     c.args.p.now c.requires.predicate c.forms_are_runs.ensures c.steps_take_inputs.ensures
     c.failing_is_not_holding.ensures c.args.asker.now)

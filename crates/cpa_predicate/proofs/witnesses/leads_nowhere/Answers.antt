@@ -9,9 +9,9 @@ use Rattle.cpa_predicate.proofs.witnesses.leads_nowhere.Goals as goal
 
 pub returns-in-len1-up-clause-no : goal.returns-in-len1-up-clause-no
 returns-in-len1-up-clause-no c = λ _ none.
-    let found = first_step c.args._cfa.now c.args._elem.now c.args._edge.now c.args.behind.now
+    let found = first_step c.args._at.now.cfa.now c.args._at.now.elem.now c.args._at.now.edge.now c.args.behind.now
     c.in-len1-up.len_at_least c.requires.behind in
-    absurd (never_steps c.args._cfa.now c.args._elem.now c.args._edge.now
+    absurd (never_steps c.args._at.now.cfa.now c.args._at.now.elem.now c.args._at.now.edge.now
     c.requires.step.automaton c.requires.step.act c.requires.step.elem c.forms_are_runs.ensures
     c.steps_take_inputs.ensures
     (subst (λ (f : Form). HasNoModel f.query) c.requires.step.is none)
@@ -20,6 +20,6 @@ returns-in-len1-up-clause-no c = λ _ none.
 pub is_never-requires : goal.is_never-requires
 is_never-requires c =
     subst (λ (f : Form). IsQuery f.query) (sym c.requires.step.is)
-    (step_asked c.args._cfa.now c.args._elem.now c.args._edge.now c.requires.step.automaton
+    (step_asked c.args._at.now.cfa.now c.args._at.now.elem.now c.args._at.now.edge.now c.requires.step.automaton
     c.requires.step.act c.requires.step.elem c.forms_are_runs.ensures
     c.steps_take_inputs.ensures)

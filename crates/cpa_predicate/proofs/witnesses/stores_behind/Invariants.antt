@@ -4,4 +4,4 @@ use Rattle.cpa_predicate.specs.Steps.{IsAfter}
 use Rattle.cpa_predicate.proofs.witnesses.stores_behind.Given as goal
 
 abbrev pub invariant-loop-store : goal.invariant-loop-store
-invariant-loop-store l = AllByRecursion (IsAfter l.cfa l.elem l.edge) l.found.items
+invariant-loop-store l = AllByRecursion (IsAfter l.at.cfa.now l.at.elem.now l.at.edge.now) l.found.items
