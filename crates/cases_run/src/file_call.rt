@@ -61,6 +61,6 @@ pub fn print_file_call<R: Threads + Sync + Files + AllocGlobal, W: Write>(
     let row = row_of(line);
     let words = words_of(alloc, row.words)?;
     let mut sink = MemorySink::new(alloc, ROOM, ROOM, Vec::new(alloc))?;
-    let status = answer(rt, words, &mut sink)?;
+    let status = answer(rt, words, None, &mut sink)?;
     print(out, row, status, sink.written())
 }

@@ -52,7 +52,7 @@ fn answer_rows<R: Threads + Sync + Files + Print + Input + AllocGlobal>(rt: &R) 
 /// The words of the command line are in `args`: one of them is no text.
 fn main(rt: HostRuntime) -> ExitCode {
     match answer_rows(&rt) {
-        Ok(()) => start(&rt),
+        Ok(()) => start(&rt, false),
         Err(_) => ExitCode::FAILURE,
     }
 }

@@ -10,6 +10,7 @@ use cpa_composite::Handed;
 use cpa_craig::Craig;
 use cpa_iface::{Location, Plain};
 use cpa_outside::{MemoryInputs, MemorySink};
+use cpa_progress::Watched;
 use cpa_top::run;
 use cpa_value::Value;
 use std::alloc::{AllocError, Global};
@@ -17,6 +18,12 @@ use std::io::{self, Write};
 use std::sync::Arc;
 use std::sync::atomic::{AtomicU64, Ordering};
 use std::thread::Threads;
+
+/// The analysis, of which nothing is told: of the type that `answer` of `cpa_host_start` hands in, so
+/// that the program has the whole call once.
+fn unwatched(handed: Handed) -> Watched<Handed> {
+    Watched::new(handed, None)
+}
 
 /// The status of the call by the handed analyses. A name that no analysis has is passed over.
 fn call<R: Threads + Sync>(
@@ -30,24 +37,24 @@ fn call<R: Threads + Sync>(
     let mut analyses = Vec::new(alloc);
     for name in row.handed.split(',') {
         match name {
-            "location" => analyses.push(Handed {
+            "location" => analyses.push(unwatched(Handed {
                 analysis: Box::new(alloc, Plain(Location))?,
-            })?,
-            "callstack" => analyses.push(Handed {
+            }))?,
+            "callstack" => analyses.push(unwatched(Handed {
                 analysis: Box::new(alloc, Plain(Callstack))?,
-            })?,
-            "value" => analyses.push(Handed {
+            }))?,
+            "value" => analyses.push(unwatched(Handed {
                 analysis: Box::new(alloc, Value::new())?,
-            })?,
-            "craig" => analyses.push(Handed {
+            }))?,
+            "craig" => analyses.push(unwatched(Handed {
                 analysis: Box::new(alloc, Craig::new())?,
-            })?,
-            "blind" => analyses.push(Handed {
+            }))?,
+            "blind" => analyses.push(unwatched(Handed {
                 analysis: Box::new(alloc, Plain(Blind))?,
-            })?,
-            "counted" => analyses.push(Handed {
+            }))?,
+            "counted" => analyses.push(unwatched(Handed {
                 analysis: Box::new(alloc, Counted::new(Arc::try_clone(covers)?))?,
-            })?,
+            }))?,
             _ => {}
         }
     }

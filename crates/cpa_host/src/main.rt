@@ -3,9 +3,11 @@
 #![tactic(auto)]
 
 use cpa_host_start::start;
+use std::io::IsTerminal;
 use std::process::ExitCode;
 
-/// What the program may reach of the machine, it reaches by `rt`.
+/// What the program may reach of the machine, it reaches by `rt`. Where the standard error is a
+/// terminal, a user sees there how far a run is.
 fn main(rt: HostRuntime) -> ExitCode {
-    start(&rt)
+    start(&rt, rt.stderr().is_terminal())
 }
