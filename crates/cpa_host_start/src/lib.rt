@@ -98,7 +98,7 @@ pub fn answer<R: Threads + Sync + Files + AllocGlobal, K: Sink>(
 
 /// The status of the answer to the words on the standard output, while another thread tells on the
 /// standard error how far it is. That thread ends with the answer's first byte.
-fn answer_and_tell<R: Threads + Sync + Files + Print + Clock + AllocGlobal>(
+fn answer_and_tell<R: Threads + Sync + Files + Print + Eprint + Clock + AllocGlobal>(
     rt: &R,
     words: Vec<String>,
 ) -> Result<u8, AllocError> {
@@ -114,7 +114,7 @@ fn answer_and_tell<R: Threads + Sync + Files + Print + Clock + AllocGlobal>(
 }
 
 /// The status of the command line's answer.
-fn answer_to_words<R: Threads + Sync + Env + Files + Print + Clock + AllocGlobal>(
+fn answer_to_words<R: Threads + Sync + Env + Files + Print + Eprint + Clock + AllocGlobal>(
     rt: &R,
     is_told: bool,
 ) -> Result<u8, AllocError> {
@@ -128,7 +128,7 @@ fn answer_to_words<R: Threads + Sync + Env + Files + Print + Clock + AllocGlobal
 
 /// Does what the command line asks, over the files of the system and its standard output, and gives
 /// the status. A run that lasts tells on the standard error how far it is, where that is wanted.
-pub fn start<R: Threads + Sync + Env + Files + Print + Clock + AllocGlobal>(
+pub fn start<R: Threads + Sync + Env + Files + Print + Eprint + Clock + AllocGlobal>(
     rt: &R,
     is_told: bool,
 ) -> ExitCode {

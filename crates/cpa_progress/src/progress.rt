@@ -4,6 +4,7 @@
 use std::sync::atomic::{AtomicBool, AtomicU64, Ordering};
 
 /// What a run has done so far, for another thread to read.
+#[derive(Drop)]
 pub struct Progress {
     turns: AtomicU64,
     refinements: AtomicU64,

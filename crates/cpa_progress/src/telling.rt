@@ -2,7 +2,6 @@
 //! one.
 
 use crate::progress::Progress;
-use std::io::Print;
 use std::time::{Clock, Duration, Instant};
 use std::{io, thread};
 
@@ -13,13 +12,13 @@ const FIRST: u64 = 2;
 const PAUSE: u64 = 20;
 
 /// Tells what was done in so many seconds.
-fn tell_line<R: Print>(rt: &R, seconds: u64, progress: &Progress) -> io::Result<()> {
+fn tell_line<R: Eprint>(rt: &R, seconds: u64, progress: &Progress) -> io::Result<()> {
     let (turns, refinements) = (progress.turns(), progress.refinements());
     eprintln!(rt; "{seconds} s, {turns} turns, {refinements} refinements")
 }
 
 /// Tells the lines, one for each second after the first ones, until the run is over.
-fn tell_lines<R: Clock + Print>(rt: &R, progress: &Progress) -> io::Result<()> {
+fn tell_lines<R: Clock + Eprint>(rt: &R, progress: &Progress) -> io::Result<()> {
     let begun = Instant::now(rt)?;
     let mut next = FIRST;
     for _ in 0..u64::MAX {
@@ -38,6 +37,6 @@ fn tell_lines<R: Clock + Print>(rt: &R, progress: &Progress) -> io::Result<()> {
 
 /// Tells once a second on the standard error how far a run is, until it is over. A clock or a
 /// terminal that fails ends it: it is told nothing more, and the run goes on.
-pub fn tell<R: Clock + Print>(rt: &R, progress: &Progress) {
+pub fn tell<R: Clock + Eprint>(rt: &R, progress: &Progress) {
     let _told = tell_lines(rt, progress);
 }

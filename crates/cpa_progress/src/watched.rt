@@ -1,6 +1,7 @@
 //! An analysis that counts the calls of the one that it holds, and means what that one means. That
 //! the laws of `cpa_iface` go through is shown by the checker alone.
-ghost use Rattle.std.specs.Prelude.{◌≡◌, ◌<◌, ◌+◌, ◌↔◌, ◌→◌, ℕ, IsTrue, length, slice_get, Some};
+ghost use Rattle.std.specs.Prelude.{◌≡◌, ◌<◌, ◌↔◌, IsTrue, length};
+ghost use Rattle.cpa_progress.specs.Turns.{BeginsTurn};
 
 use crate::progress::Progress;
 use cpa_iface::{Analysis, Entry, MergeRule, Part, Precision, Settings};
@@ -37,6 +38,7 @@ impl<A> Watched<A> {
 /// follows the edges of one point in their order.
 fn is_first(cfa: &Cfa, edge: u32) -> bool
     requires { edge < length cfa.now.edges }
+    ensures { IsTrue result ↔ BeginsTurn cfa.now.edges edge }
 {
     edge == 0 || cfa.edge(edge - 1).from != cfa.edge(edge).from
 }
