@@ -1,7 +1,6 @@
 //! An analysis that counts the calls of the one that it holds, and means what that one means. That
 //! the laws of `cpa_iface` go through is shown by the checker alone.
-ghost use Rattle.std.specs.Prelude.{◌≡◌, ◌<◌, ◌↔◌, IsTrue, length};
-ghost use Rattle.cpa_progress.specs.Turns.{BeginsTurn};
+ghost use Rattle.std.specs.Prelude.{◌≡◌, ◌<◌, length};
 
 use crate::progress::Progress;
 use cpa_iface::{Analysis, Entry, MergeRule, Part, Precision, Settings};
@@ -18,6 +17,14 @@ pub struct Watched<A> {
     refinements: u64,
 }
 
+/// Whether an edge is the first of those that leave its point, so that a turn begins with it: a turn
+/// follows the edges of one point in their order. No clause says so, as none says what is counted.
+fn is_first(cfa: &Cfa, edge: u32) -> bool
+    requires { edge < length cfa.now.edges }
+{
+    edge == 0 || cfa.edge(edge - 1).from != cfa.edge(edge).from
+}
+
 impl<A> Watched<A> {
     ghost use Rattle.cpa_progress.specs.Held.{analysis_of};
 
@@ -32,15 +39,29 @@ impl<A> Watched<A> {
             refinements: 0,
         }
     }
-}
 
-/// Whether an edge is the first of those that leave its point, so that a turn begins with it: a turn
-/// follows the edges of one point in their order.
-fn is_first(cfa: &Cfa, edge: u32) -> bool
-    requires { edge < length cfa.now.edges }
-    ensures { IsTrue result ↔ BeginsTurn cfa.now.edges edge }
-{
-    edge == 0 || cfa.edge(edge - 1).from != cfa.edge(edge).from
+    /// Counts a turn where it begins with this edge.
+    fn count_turn(&mut self, cfa: &Cfa, edge: u32)
+        requires { edge < length cfa.now.edges }
+        ensures { analysis_of self.new ≡ analysis_of self.old }
+    {
+        if let Some(progress) = &self.progress {
+            if is_first(cfa, edge) {
+                self.turns = self.turns.saturating_add(1);
+                progress.note_turns(self.turns);
+            }
+        }
+    }
+
+    /// Counts a refinement.
+    fn count_refinement(&mut self)
+        ensures { analysis_of self.new ≡ analysis_of self.old }
+    {
+        if let Some(progress) = &self.progress {
+            self.refinements = self.refinements.saturating_add(1);
+            progress.note_refinements(self.refinements);
+        }
+    }
 }
 
 impl<A: Analysis> Analysis for Watched<A> {
@@ -77,12 +98,7 @@ impl<A: Analysis> Analysis for Watched<A> {
         elem: &Elem,
         precision: &Precision,
     ) -> Result<Vec<Elem>, AllocError> {
-        if let Some(progress) = &self.progress {
-            if is_first(cfa, edge) {
-                self.turns = self.turns.saturating_add(1);
-                progress.note_turns(self.turns);
-            }
-        }
+        self.count_turn(cfa, edge);
         self.analysis.transfer(alloc, cfa, edge, elem, precision)
     }
 
@@ -133,10 +149,7 @@ impl<A: Analysis> Analysis for Watched<A> {
         path: &Path,
         precision: &Precision,
     ) -> Result<Precision, AllocError> {
-        if let Some(progress) = &self.progress {
-            self.refinements = self.refinements.saturating_add(1);
-            progress.note_refinements(self.refinements);
-        }
+        self.count_refinement();
         self.analysis.refine(alloc, cfa, path, precision)
     }
 }
