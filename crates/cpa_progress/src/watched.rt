@@ -17,7 +17,7 @@ pub struct Watched<A> {
     refinements: u64,
 }
 
-/// Whether an edge is the first of those that leave its point, so that a turn begins with it: a turn
+/// Whether an edge is the first of those that leave its point, so that a turn begins with it, which
 /// follows the edges of one point in their order. No clause says so, as none says what is counted.
 fn is_first(cfa: &Cfa, edge: u32) -> bool
     requires { edge < length cfa.now.edges }
