@@ -19,8 +19,8 @@ use std::sync::Arc;
 use std::sync::atomic::{AtomicU64, Ordering};
 use std::thread::Threads;
 
-/// The analysis, of which nothing is told. It is of the type that `answer` of `cpa_host_start` hands
-/// in, so that the program has the whole call once.
+/// The analysis, of which nothing is told. It is of the type that `answer` of `cpa_host_start`
+/// hands in, so that the program has the whole call once.
 fn unwatched(handed: Handed) -> Watched<Handed> {
     Watched::new(handed, None)
 }
