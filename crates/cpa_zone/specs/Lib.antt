@@ -1,0 +1,9 @@
+pub mod Cells
+pub mod Pairs
+pub mod Facts
+pub mod Numbers
+pub mod Ranks
+pub mod Covers
+pub mod Merging
+pub mod Steps
+pub mod Zones

@@ -1,0 +1,4 @@
+pub mod Zones
+pub mod Operands
+pub mod Acts
+pub mod Laws
