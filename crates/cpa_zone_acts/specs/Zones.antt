@@ -55,6 +55,7 @@ pub record IsZoneOf (cells : List Cell) (z : Zoned) : Type 0 where
   pub narrow : AllByRecursion (IsNarrowCell cells) z.cells
   pub ascending : AreAscendingFrom 0 z.cells
   pub ranges : z.bounds.ranges ≡ ranges_of cells z.cells
+  pub bounds : AreBounds z.bounds.ranges z.bounds.most
 
 -- the number of a row in a store: 0, or the value of the row's cell
 abbrev pub number_of : List ℕ → List ℤ → ℕ → ℤ

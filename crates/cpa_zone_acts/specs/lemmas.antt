@@ -1,0 +1,2 @@
+-- Lemmas on zones, operands and acts. No definition that a contract cites stands here.
+pub mod OperandLemmas
