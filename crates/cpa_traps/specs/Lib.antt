@@ -1,0 +1,5 @@
+pub mod Checking
+pub mod Guards
+pub mod Marks
+pub mod Bounds
+pub mod Tells
