@@ -5,6 +5,7 @@
 mod blind;
 mod counted;
 mod file_call;
+mod flags;
 mod memory_call;
 mod memory_row;
 mod words;

@@ -3,13 +3,16 @@
 
 use crate::blind::Blind;
 use crate::counted::Counted;
+use crate::flags::Flags;
 use crate::memory_row::{MemoryRow, NamedFiles, numbers};
 use crate::words::words_of;
 use cpa_callstack::Callstack;
 use cpa_composite::Handed;
 use cpa_craig::Craig;
 use cpa_iface::{Location, Plain};
+use cpa_interval::Interval;
 use cpa_outside::{MemoryInputs, MemorySink};
+use cpa_portfolio::run_portfolio;
 use cpa_top::run;
 use cpa_value::Value;
 use std::alloc::{AllocError, Global};
@@ -18,40 +21,59 @@ use std::sync::Arc;
 use std::sync::atomic::{AtomicU64, Ordering};
 use std::thread::Threads;
 
-/// The status of the call by the handed analyses. A name that no analysis has is passed over.
+/// What a row's call meets besides its files: counts that live on when it is over.
+#[derive(Drop)]
+struct Counts {
+    covers: Arc<AtomicU64>,
+    flags: Flags,
+}
+
+/// The status of the call by the handed analyses, which are handed in once, or as often as the row
+/// says to the call of several configurations. A name that no analysis has is passed over.
 fn call<R: Threads + Sync>(
     rt: &R,
     alloc: Global,
     row: MemoryRow<'_>,
-    covers: &Arc<AtomicU64>,
+    counts: &Counts,
     inputs: &mut MemoryInputs,
     out: &mut MemorySink,
 ) -> Result<u8, AllocError> {
-    let mut analyses = Vec::new(alloc);
-    for name in row.handed.split(',') {
-        match name {
-            "location" => analyses.push(Handed {
-                analysis: Box::new(alloc, Plain(Location))?,
-            })?,
-            "callstack" => analyses.push(Handed {
-                analysis: Box::new(alloc, Plain(Callstack))?,
-            })?,
-            "value" => analyses.push(Handed {
-                analysis: Box::new(alloc, Value::new())?,
-            })?,
-            "craig" => analyses.push(Handed {
-                analysis: Box::new(alloc, Craig::new())?,
-            })?,
-            "blind" => analyses.push(Handed {
-                analysis: Box::new(alloc, Plain(Blind))?,
-            })?,
-            "counted" => analyses.push(Handed {
-                analysis: Box::new(alloc, Counted::new(Arc::try_clone(covers)?))?,
-            })?,
-            _ => {}
-        }
-    }
     let words = words_of(alloc, row.words)?;
+    let mut lists = Vec::new(alloc);
+    for _ in 0..row.lists.unwrap_or(1) {
+        let mut analyses = Vec::new(alloc);
+        for name in row.handed.split(',') {
+            match name {
+                "location" => analyses.push(Handed {
+                    analysis: Box::new(alloc, Plain(Location))?,
+                })?,
+                "callstack" => analyses.push(Handed {
+                    analysis: Box::new(alloc, Plain(Callstack))?,
+                })?,
+                "value" => analyses.push(Handed {
+                    analysis: Box::new(alloc, Value::new())?,
+                })?,
+                "craig" => analyses.push(Handed {
+                    analysis: Box::new(alloc, Craig::new())?,
+                })?,
+                "blind" => analyses.push(Handed {
+                    analysis: Box::new(alloc, Plain(Blind))?,
+                })?,
+                "counted" => analyses.push(Handed {
+                    analysis: Box::new(alloc, Counted::new(Arc::try_clone(&counts.covers)?))?,
+                })?,
+                "interval" => analyses.push(Handed {
+                    analysis: Box::new(alloc, Interval::new())?,
+                })?,
+                _ => {}
+            }
+        }
+        lists.push(analyses)?;
+    }
+    if row.lists.is_some() {
+        return Ok(run_portfolio(rt, alloc, words, lists, inputs, out, &counts.flags));
+    }
+    let analyses = lists.pop().unwrap_or(Vec::new(alloc));
     Ok(run(rt, alloc, words, analyses, inputs, out))
 }
 
@@ -77,11 +99,11 @@ fn answer<R: Threads + Sync>(
     alloc: Global,
     row: MemoryRow<'_>,
     files: NamedFiles,
-    covers: &Arc<AtomicU64>,
+    counts: &Counts,
 ) -> Result<(u8, MemorySink), AllocError> {
     let mut inputs = inputs_of(alloc, row, files)?;
     let mut out = sink_of(alloc, row)?;
-    let status = call(rt, alloc, row, covers, &mut inputs, &mut out)?;
+    let status = call(rt, alloc, row, counts, &mut inputs, &mut out)?;
     Ok((status, out))
 }
 
@@ -110,11 +132,14 @@ fn print<W: Write>(
     row: MemoryRow<'_>,
     status: u8,
     text: &[u8],
-    covers: u64,
+    counts: &Counts,
 ) -> io::Result<()> {
     writeln!(out, "{}: status {status}", row.name)?;
     show(out, text, row.shown, row.last)?;
-    show_covers(out, covers, row.covers)
+    if counts.flags.saw() {
+        writeln!(out, "0 saw 1 begin")?;
+    }
+    show_covers(out, counts.covers.load(Ordering::SeqCst), row.covers)
 }
 
 /// Prints what a row's call answers. It is a run of its own: no file and no analysis is used twice.
@@ -125,8 +150,10 @@ pub fn print_memory_call<R: Threads + Sync, W: Write>(
     out: &mut W,
 ) -> io::Result<()> {
     let (row, files) = MemoryRow::parse(alloc, line)?;
-    let covers = Arc::new(alloc, AtomicU64::new(0))?;
-    let (status, sink) = answer(rt, alloc, row, files, &covers)?;
-    let count = covers.load(Ordering::SeqCst);
-    print(out, row, status, sink.written(), count)
+    let counts = Counts {
+        covers: Arc::new(alloc, AtomicU64::new(0))?,
+        flags: Flags::new(row.looks),
+    };
+    let (status, sink) = answer(rt, alloc, row, files, &counts)?;
+    print(out, row, status, sink.written(), &counts)
 }

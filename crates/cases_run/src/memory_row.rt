@@ -30,6 +30,10 @@ pub struct MemoryRow<'a> {
     pub last: usize,
     /// From which number on the covers that were asked for are counted out.
     pub covers: Option<u64>,
+    /// How many times the list is handed in, where the words are those of `cpaportfolio`.
+    pub lists: Option<usize>,
+    /// Whether configuration 0 looks for configuration 1 as it begins.
+    pub looks: bool,
     blanks: usize,
 }
 
@@ -64,6 +68,8 @@ impl<'a> MemoryRow<'a> {
             shown: ROOM,
             last: 0,
             covers: None,
+            lists: None,
+            looks: false,
             blanks: 0,
         }
     }
@@ -85,6 +91,8 @@ impl<'a> MemoryRow<'a> {
             "shown" => self.shown = number(value),
             "last" => self.last = number(value),
             "covers" => self.covers = value.parse::<u64>().ok(),
+            "lists" => self.lists = value.parse::<usize>().ok(),
+            "looks" => self.looks = true,
             "blanks" => self.blanks = number(value),
             name => {
                 let blanks = self.blanks;

@@ -19,7 +19,7 @@ use std::rt::{Env, Files};
 use std::thread::Threads;
 
 /// The words after the program's own name. Where one of them is no text, there is no command.
-fn words<R: Env + Alloc<A = Global>>(rt: &R) -> Result<Vec<String>, AllocError> {
+pub fn words<R: Env + Alloc<A = Global>>(rt: &R) -> Result<Vec<String>, AllocError> {
     let mut words = Vec::new(rt.alloc());
     match env::args(rt) {
         Ok(args) => {
@@ -37,7 +37,7 @@ fn words<R: Env + Alloc<A = Global>>(rt: &R) -> Result<Vec<String>, AllocError> 
 }
 
 /// Refuses for want of memory before the call could be made.
-fn refuse_memory<R: Print>(out: &mut StdoutSink<R>) -> ExitCode {
+pub fn refuse_memory<R: Print>(out: &mut StdoutSink<R>) -> ExitCode {
     match write_whole(out, b"refused memory\n") {
         Ok(()) => ExitCode::from(Status::OutOfMemory.code()),
         Err(_) => ExitCode::from(Status::WriteFailed.code()),

@@ -24,7 +24,7 @@ use cpa_top_verdict::tell;
 use std::alloc::{AllocError, Global};
 
 /// The names of the handed analyses, in order.
-pub(crate) fn names_of<A: Analysis>(
+pub fn names_of<A: Analysis>(
     alloc: Global,
     analyses: &[A],
 ) -> Result<Vec<String>, AllocError>
@@ -39,7 +39,7 @@ pub(crate) fn names_of<A: Analysis>(
 }
 
 /// The status of a verdict.
-pub(crate) fn verdict_status(verdict: Verdict) -> Status
+pub fn verdict_status(verdict: Verdict) -> Status
     ensures { result ≡ verdict_status verdict }
 {
     match verdict {

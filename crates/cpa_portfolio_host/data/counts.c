@@ -1,0 +1,1 @@
+int main(void){int i=0;while(i<1000)i=i+1;if(i!=1000)reach_error();return 0;}
