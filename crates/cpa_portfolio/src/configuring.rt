@@ -24,14 +24,19 @@ use cpa_top_jobs::{Refusal, Role, names_of, read_file};
 use cpa_top_verdict::picks_are_places;
 use std::alloc::{AllocError, Global};
 
-/// The line that refuses the configuration of this number for a fault.
+/// How many bytes stand in front of the rule in the line of a fault: `refused config `.
+const FRONT: usize = 15;
+
+/// The line that refuses the configuration of this number for a fault: that of the fault, with the
+/// number in front of the rule.
 fn config_line(alloc: Global, place: usize, fault: &ConfigFault) -> Result<String, AllocError>
     ensures { IfOk result (λ line. string_bytes line
         ≡ config_line place fault.now.rule (string_bytes fault.now.key)) }
 {
-    let line = format!(in alloc; "{fault}")?;
-    let words = line.strip_prefix("refused config ").unwrap_or("");
-    format!(in alloc; "refused config {place} {words}\n")
+    let number = format!(in alloc; "{place} ")?;
+    let mut line = format!(in alloc; "{fault}\n")?;
+    line.insert_str(FRONT, number.as_str())?;
+    Ok(line)
 }
 
 /// What the bytes of the configuration of this number say for the names of its analyses.

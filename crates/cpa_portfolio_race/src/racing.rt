@@ -1,6 +1,6 @@
 //! The answers of several analyses: the configurations are halved until one is left, and what the
 //! halves give is joined. By `specs/Races.antt`, with `proofs/Halving.antt`.
-ghost use Rattle.std.specs.Prelude.{◌≡◌, ◌<◌, ◌≤◌, ◌+◌, ◌++◌, length, map, IfOk, vec_len};
+ghost use Rattle.std.specs.Prelude.{◌≡◌, ◌<◌, ◌≤◌, ◌+◌, ◌++◌, length, map, IfOk, IsOkAnd};
 ghost use Rattle.std.specs.Thread.{IsSync};
 ghost use Rattle.cpa_model.specs.Automata.{IsAutomaton};
 ghost use Rattle.cpa_composite.specs.Composites.{components};
@@ -43,7 +43,7 @@ fn joined(
     front: Result<Vec<Answer>, AllocError>,
     back: Result<Vec<Answer>, AllocError>,
 ) -> Result<Vec<Answer>, AllocError>
-    ensures { IfOk result (λ answers. IfOk front (λ first. IfOk back (λ second.
+    ensures { IfOk result (λ answers. IsOkAnd front (λ first. IsOkAnd back (λ second.
         answers.items ≡ first.items ++ second.items))) }
 {
     let mut answers = front?;

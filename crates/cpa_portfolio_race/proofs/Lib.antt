@@ -1,0 +1,4 @@
+mod Agreeing
+mod Deciding
+mod Halving
+mod Sending
