@@ -33,9 +33,10 @@ AreConfigured files m _ _ _ = ⊥
 
 -- the components of each configuration, by the list beside it
 abbrev pub components_by : List (List Meaning) → List Config → List (List Component)
+components_by _ [] = []
+components_by [] (config ∷ configs) = []
 components_by (list ∷ lists) (config ∷ configs) =
     picked list config.picks ∷ components_by lists configs
-components_by _ _ = []
 
 -- each configuration picks places of the list beside it
 abbrev pub PickPlaces : List (List Meaning) → List Config → Type 0

@@ -30,11 +30,15 @@ abbrev pub own_stages : ℕ → List (List ℕ) → List ℕ → List Stage
 own_stages place names file =
     as_for_one (reading role.Config file) ∷ configuring place names file ∷ []
 
--- those of the configurations from this number on, each of which is compared with the source
+-- those of one that is compared with the source besides
+abbrev pub next_stages : ModelSource → ℕ → List (List ℕ) → List ℕ → List Stage
+next_stages source place names file =
+    own_stages place names file ++ comparing place names file source ∷ []
+
+-- those of the configurations from this number on
 abbrev pub later_stages : ModelSource → ℕ → List (List Meaning) → List (List ℕ) → List Stage
 later_stages source place (list ∷ lists) (file ∷ files) =
-    own_stages place (names_of list) file
-    ++ comparing place (names_of list) file source ∷ later_stages source (suc place) lists files
+    next_stages source place (names_of list) file ++ later_stages source (suc place) lists files
 later_stages source place _ _ = []
 
 -- where the data model comes from: the first configuration

@@ -7,14 +7,16 @@ ghost use Rattle.cpa_composite.specs.Components.{ArePlaces};
 ghost use Rattle.cpa_config.specs.Configurations.{Configures};
 ghost use Rattle.cpa_config.specs.declared.faults.ConfigRule.TheVariants.{C3};
 ghost use Rattle.cpa_ints.specs.declared.data_model.DataModel.{DataModel};
+ghost use Rattle.cpa_top_jobs.specs.Ends.{IsModelOf};
 ghost use Rattle.cpa_top_jobs.specs.Files.{files_of};
+ghost use Rattle.cpa_top_jobs.specs.Jobs.{ModelSource, names_of};
 ghost use Rattle.cpa_top_jobs.specs.Refusals.{IsTaken};
 ghost use Rattle.cpa_top_jobs.specs.declared.refusal.Refusal.TheVariants.{OutOfMemory};
 ghost use Rattle.cpa_portfolio.specs.Calls.{meanings_of};
 ghost use Rattle.cpa_portfolio.specs.Ends.{PickPlaces};
 ghost use Rattle.cpa_portfolio.specs.Lines.{config_line, model_key};
 ghost use Rattle.cpa_portfolio.specs.Results.{AreTakenIn, IsComparedBy, IsConfigRefused, IsHalted};
-ghost use Rattle.cpa_portfolio.specs.Stages.{config_stages, own_stages};
+ghost use Rattle.cpa_portfolio.specs.Stages.{config_stages, next_stages, own_stages};
 
 use cpa_config::{Config, ConfigError, ConfigFault};
 use cpa_iface::Analysis;
@@ -99,6 +101,52 @@ fn compare(
     })
 }
 
+/// The first configuration, of the file of a name.
+fn take_first<A: Analysis, I: Inputs>(
+    alloc: Global,
+    inputs: &mut I,
+    list: &[A],
+    file: &str,
+) -> Result<Config, Refusal>
+    ensures told { I.bytes_of inputs.new ≡ I.bytes_of inputs.old }
+    ensures config { IfOk result (λ config. IsTaken (I.bytes_of inputs.old file.now)
+        (λ bytes. Configures bytes (names_of (map A.meaning list.now)) config)) }
+    ensures places { IfOk result (λ config. ArePlaces (length list.now) config.picks) }
+    ensures reads { OnOk result (I.faults_of inputs.new ≡ I.faults_of inputs.old) }
+    ensures refused { IfErr result (IsHalted
+        (files_of (I.bytes_of inputs.old) (I.faults_of inputs.old) (I.faults_of inputs.new))
+        (own_stages 0 (names_of (map A.meaning list.now)) file.now)) }
+{
+    let names = names_of(alloc, list)?;
+    take_config(alloc, inputs, 0, names.as_slice(), file)
+}
+
+/// The configuration of this number, of the file of a name, which has the data model of the first.
+fn take_next<A: Analysis, I: Inputs>(
+    alloc: Global,
+    inputs: &mut I,
+    place: usize,
+    list: &[A],
+    file: &str,
+    model: DataModel,
+) -> Result<Config, Refusal>
+    ensures told { I.bytes_of inputs.new ≡ I.bytes_of inputs.old }
+    ensures config { IfOk result (λ config. IsTaken (I.bytes_of inputs.old file.now)
+        (λ bytes. Configures bytes (names_of (map A.meaning list.now)) config)) }
+    ensures model { IfOk result (λ config. config.model ≡ model) }
+    ensures places { IfOk result (λ config. ArePlaces (length list.now) config.picks) }
+    ensures reads { OnOk result (I.faults_of inputs.new ≡ I.faults_of inputs.old) }
+    ensures refused { (source : ModelSource) → IsModelOf (I.bytes_of inputs.old) source model
+        → IfErr result (IsHalted
+        (files_of (I.bytes_of inputs.old) (I.faults_of inputs.old) (I.faults_of inputs.new))
+        (next_stages source place (names_of (map A.meaning list.now)) file.now)) }
+{
+    let names = names_of(alloc, list)?;
+    let config = take_config(alloc, inputs, place, names.as_slice(), file)?;
+    compare(alloc, place, model, config.model)?;
+    Ok(config)
+}
+
 /// The configuration of each file, in their order, by the list beside it.
 pub(crate) fn take_configs<A: Analysis, I: Inputs>(
     alloc: Global,
@@ -121,15 +169,13 @@ pub(crate) fn take_configs<A: Analysis, I: Inputs>(
         (config_stages (meanings_of A.meaning (λ list. list.items) lists.now)
         (map string_bytes files.now))) }
 {
-    let names = names_of(alloc, lists[0].as_slice())?;
-    let first = take_config(alloc, inputs, 0, names.as_slice(), files[0].as_str())?;
+    let first = take_first(alloc, inputs, lists[0].as_slice(), files[0].as_str())?;
     let model = first.model;
     let mut configs = Vec::new(alloc);
     configs.push(first)?;
     for place in 1..files.len() {
-        let names = names_of(alloc, lists[place].as_slice())?;
-        let config = take_config(alloc, inputs, place, names.as_slice(), files[place].as_str())?;
-        compare(alloc, place, model, config.model)?;
+        let list = lists[place].as_slice();
+        let config = take_next(alloc, inputs, place, list, files[place].as_str(), model)?;
         configs.push(config)?;
     }
     Ok(configs)

@@ -14,7 +14,7 @@ use Rattle.cpa_engine.specs.declared.answers.Answer.{Answer}
 use Rattle.cpa_engine.specs.declared.answers.Answer.TheVariants.{True, False}
 use Rattle.cpa_engine.specs.Answers.{IsAnswer}
 use Rattle.cpa_engine_turn.specs.Keys.{rows_of}
-use Rattle.cpa_interp.specs.lemmas.Outcomes.{error_called}
+use Rattle.cpa_interp.specs.lemmas.Outcomes.{error_is_called}
 use Rattle.cpa_portfolio_race.specs.Races.{Agree, AreAnswers}
 
 -- an answer among them, with what holds of it
@@ -52,5 +52,5 @@ agree cfa rows configs answers shows is are = λ entries inputs steps safe wrong
     let never = (shows is.program cfa (rows_of entries) is.well_formed is.automaton
     safe_one.says.covers).never in
     let run = wrong_one.says.calls is.program is.well_formed is.automaton in
-    let (states, execution, calls) = error_called is.program inputs steps steps run.replay in
+    let (states, execution, calls) = error_is_called is.program inputs steps steps run.replay in
     never states execution calls

@@ -1,0 +1,4 @@
+mod Configurations
+mod Headline
+mod Lines
+mod Stages
