@@ -1,7 +1,7 @@
 //! The configurations of a call, one after another: each is read and understood for the names of
 //! its list, and from the second on compared with the first (`IsHalted` of `specs/Results.antt`);
 //! shown in `proofs/Configurations.antt`.
-ghost use Rattle.std.specs.Prelude.{◌≡◌, ◌≢◌, ◌<◌, ◌≤◌, length, map, Some, IfOk, IfErr, OnOk};
+ghost use Rattle.std.specs.Prelude.{◌≡◌, ◌<◌, ◌≤◌, [], ◌∷◌, ◌++◌, length, map, IfOk, IfErr, OnOk};
 ghost use Rattle.std.specs.String.{string_bytes};
 ghost use Rattle.cpa_composite.specs.Components.{ArePlaces};
 ghost use Rattle.cpa_config.specs.Configurations.{Configures};
@@ -147,6 +147,14 @@ fn take_next<A: Analysis, I: Inputs>(
     Ok(config)
 }
 
+/// Adds a configuration behind the others.
+fn add(configs: &mut Vec<Config>, config: Config) -> Result<(), AllocError>
+    ensures { OnOk result (configs.new.items ≡ configs.old.items ++ config ∷ []) }
+{
+    configs.push(config)?;
+    Ok(())
+}
+
 /// The configuration of each file, in their order, by the list beside it.
 pub(crate) fn take_configs<A: Analysis, I: Inputs>(
     alloc: Global,
@@ -172,11 +180,11 @@ pub(crate) fn take_configs<A: Analysis, I: Inputs>(
     let first = take_first(alloc, inputs, lists[0].as_slice(), files[0].as_str())?;
     let model = first.model;
     let mut configs = Vec::new(alloc);
-    configs.push(first)?;
+    add(&mut configs, first)?;
     for place in 1..files.len() {
         let list = lists[place].as_slice();
         let config = take_next(alloc, inputs, place, list, files[place].as_str(), model)?;
-        configs.push(config)?;
+        add(&mut configs, config)?;
     }
     Ok(configs)
 }
