@@ -20,7 +20,7 @@ pub record IsUsage (call : Call) (with : Status) (text : List ℕ) : Type 0 wher
   pub status : with ≡ status.Usage
   pub text_is : text ≡ usage_text
 
--- the call stops at a stage or comes to its end, for the program and the configurations of the words
+-- the call stops at a stage or comes to its end, for the program and configurations of the words
 pub record IsRun (call : Call) (with : Status) (text : List ℕ) : Type 0 where
   pub program : List ℕ
   pub configs : List (List ℕ)
@@ -45,8 +45,8 @@ pub record Answers (call : Call) (output : Output) (code : ℕ) : Type 0 where
 -- ---- verdicts, in the words of the headline
 
 -- Behind a line with the number of a configuration a text was written whole that is as is said of a
--- verdict, by its list, over the bytes of its file and of the program, which are those that are told
--- where they are told.
+-- verdict, by its list, over the bytes of its file and of the program, which are those that are
+-- told where they are told.
 pub record IsWrittenFor (call : Call) (output : Output) (program : List ℕ)
     (configs : List (List ℕ)) (Is : List Meaning → List ℕ → List ℕ → List ℕ → Type 0) : Type 0
   where
