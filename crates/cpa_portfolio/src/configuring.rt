@@ -42,12 +42,7 @@ fn config_line(alloc: Global, place: usize, fault: &ConfigFault) -> Result<Strin
 }
 
 /// What the bytes of the configuration of this number say for the names of its analyses.
-fn config_of(
-    alloc: Global,
-    place: usize,
-    bytes: &[u8],
-    names: &[String],
-) -> Result<Config, Refusal>
+fn config_of(alloc: Global, place: usize, bytes: &[u8], names: &[String]) -> Result<Config, Refusal>
     ensures config { IfOk result (Configures bytes.now (map string_bytes names.now)) }
     ensures places { IfOk result (λ config. ArePlaces (length names.now) config.picks) }
     ensures refused { IfErr result (IsConfigRefused place (map string_bytes names.now) bytes.now) }
@@ -84,12 +79,7 @@ fn take_config<I: Inputs>(
 }
 
 /// Compares the data model of the configuration of this number with that of the first.
-fn compare(
-    alloc: Global,
-    place: usize,
-    first: DataModel,
-    own: DataModel,
-) -> Result<(), Refusal>
+fn compare(alloc: Global, place: usize, first: DataModel, own: DataModel) -> Result<(), Refusal>
     ensures same { OnOk result (own ≡ first) }
     ensures refused { IfErr result (IsComparedBy place first own) }
 {

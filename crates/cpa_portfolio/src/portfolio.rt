@@ -45,15 +45,7 @@ fn answer<R: Threads + Sync, A: Analysis + Send, I: Inputs, G: Gate>(
     let configs = take_configs(alloc, inputs, lists.as_slice(), files)?;
     let model = configs[0].model;
     let program = take_program(alloc, inputs, program, model)?;
-    Ok(conclude(
-        rt,
-        alloc,
-        &program,
-        lists,
-        configs.as_slice(),
-        model,
-        gate,
-    )?)
+    Ok(conclude(rt, alloc, &program, lists, configs.as_slice(), model, gate)?)
 }
 
 /// Verifies the program that the first word names by the configurations that the others name, each

@@ -50,15 +50,7 @@ pub fn answer<R: Threads + Sync + Files + AllocGlobal, K: Sink>(
         lists.push(analyses)?;
     }
     let mut inputs = FileInputs::new(rt);
-    Ok(run_portfolio(
-        rt,
-        alloc,
-        words,
-        lists,
-        &mut inputs,
-        out,
-        &NoGate,
-    ))
+    Ok(run_portfolio(rt, alloc, words, lists, &mut inputs, out, &NoGate))
 }
 
 /// The status of the command line's answer.

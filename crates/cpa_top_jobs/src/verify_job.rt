@@ -24,10 +24,7 @@ use cpa_top_verdict::tell;
 use std::alloc::{AllocError, Global};
 
 /// The names of the handed analyses, in order.
-pub fn names_of<A: Analysis>(
-    alloc: Global,
-    analyses: &[A],
-) -> Result<Vec<String>, AllocError>
+pub fn names_of<A: Analysis>(alloc: Global, analyses: &[A]) -> Result<Vec<String>, AllocError>
     ensures { IfOk result (λ names. map string_bytes names.items
         ≡ names_of (map A.meaning analyses.now)) }
 {
