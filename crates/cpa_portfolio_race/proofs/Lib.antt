@@ -1,4 +1,3 @@
 mod Agreeing
-mod Deciding
 mod Halving
 mod Sending

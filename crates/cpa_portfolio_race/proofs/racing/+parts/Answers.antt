@@ -8,7 +8,7 @@ use Rattle.cpa_portfolio_race.proofs.racing.+parts.Goals as goal
 
 pub answer_parts-returns : goal.answer_parts-returns
 answer_parts-returns g t c =
-    whole_answered components (λ v. v.items) c.args.cfa.now c.half _ _ _ _ _ _
+    whole_answered components (λ v. v.items) c.args.cfa.now _ _ _ _ _ _ _
     c.answer_halves.result c.split_at_mut-front.ensures.front c.split_at_mut-front.ensures.back
     c.split_at.ensures.front c.split_at.ensures.back c.answer_halves.ensures
 
@@ -18,3 +18,7 @@ answer_halves-returns g t c =
     (map components c.args.back.now) c.args.front_configs.now c.args.back_configs.now
     c.joined.result c.join-a.result.0 c.join-a.result.1 c.joined.ensures
     c.join-a.ensures.first c.join-a.ensures.second
+
+pub answer_halves-join-a-requires-send-A : goal.answer_halves-join-a-requires-send-A
+answer_halves-join-a-requires-send-A g t c κs within =
+    search (answer_sent, Crossing.crosses, sendable) depth 60 fits 20000
