@@ -1,12 +1,11 @@
 //! Bounds of the differences of numbers, by `specs/Distances.antt`: a square of rows and columns, of
 //! which contracts see the ranges and the list of the bounds.
 
-ghost use Rattle.std.specs.Prelude.{◌≡◌, ◌≢◌, ◌<◌, IfOk, if◌then◌else◌, Some, None, length, get_or};
+ghost use Rattle.std.specs.Prelude.{◌≡◌, ◌≢◌, ◌<◌, IfOk, if◌then◌else◌, Some, None, length};
 ghost use Rattle.cpa_zone_bounds.specs.Distances.{rows_of, bound, range_at, widest, AreRanges};
 ghost use Rattle.cpa_zone_bounds.specs.Distances.{table};
-ghost use Rattle.cpa_zone_bounds.specs.Changes.{tightened, changed, IsModest};
+ghost use Rattle.cpa_zone_bounds.specs.Changes.{tightened, changed, IsSmall};
 ghost use Rattle.cpa_zone_bounds.specs.Closures.{closure};
-ghost use Rattle.cpa_zone_bounds.specs.declared.changes.Change.TheVariants as change;
 
 use crate::changes::{Change, change_all, tighten, widest_bounds};
 use crate::closing::close;
@@ -93,33 +92,13 @@ impl Bounds {
         tighten(self.most.as_mut_slice(), rows, row, column, most);
     }
 
-    /// Nothing but their ranges is known of the numbers of these rows.
-    #[tactic(auto, using(crate::specs::lemmas::Changing::bounds_rules))]
-    pub fn forget(&mut self, start: usize, end: usize)
+    /// What becomes of the bounds where numbers change.
+    pub fn change(&mut self, change: Change)
+        requires { IsSmall change }
         ensures ranges { self.new.ranges ≡ self.old.ranges }
-        ensures most { self.new.most
-            ≡ changed self.old.ranges (change.Forgotten start end) self.old.most }
+        ensures most { self.new.most ≡ changed self.old.ranges change self.old.most }
     {
-        change_all(
-            self.ranges.as_slice(),
-            Change::Forgotten { start, end },
-            self.most.as_mut_slice(),
-        );
-    }
-
-    /// The number of the row grows by so much, and stays in its range.
-    #[tactic(auto, using(crate::specs::lemmas::Changing::bounds_rules))]
-    pub fn shift(&mut self, row: usize, by: i128)
-        requires { IsModest by }
-        ensures ranges { self.new.ranges ≡ self.old.ranges }
-        ensures most { self.new.most
-            ≡ changed self.old.ranges (change.Shifted row by) self.old.most }
-    {
-        change_all(
-            self.ranges.as_slice(),
-            Change::Shifted { row, by },
-            self.most.as_mut_slice(),
-        );
+        change_all(self.ranges.as_slice(), change, self.most.as_mut_slice());
     }
 
     /// Makes each bound the least one, and says whether there are such numbers.

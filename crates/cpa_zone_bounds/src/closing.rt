@@ -121,7 +121,11 @@ fn shorten(most: &mut [i64], rows: usize, k: usize, i: usize, j: usize)
     requires kept { All IsKept most.old }
     ensures { most.new ≡ slice_set most.old (i * rows + j) (by_way rows k most.old i j) }
 {
-    let own = shorter(at(most, rows, i, j), at(most, rows, i, k), at(most, rows, k, j));
+    let own = shorter(
+        at(most, rows, i, j),
+        at(most, rows, i, k),
+        at(most, rows, k, j),
+    );
     put(most, rows, i, j, own);
 }
 

@@ -9,26 +9,22 @@ ghost use Rattle.cpa_zone_bounds.specs.Laws.{WideningEnds};
 #[tactic(auto, using(crate::specs::Laws::closures_are_exact))]
 pub fn closures_are_exact()
     ensures { ClosuresAreExact }
-{
-}
+{}
 
 /// Numbers that come of a change meet the changed bounds.
 #[tactic(auto, using(crate::specs::Laws::changes_are_met))]
 pub fn changes_are_met()
     ensures { ChangesAreMet }
-{
-}
+{}
 
 /// No change and no closure leaves what is kept, so no sum of two bounds wraps.
 #[tactic(auto, using(crate::specs::Laws::bounds_stay_kept))]
 pub fn bounds_stay_kept()
     ensures { BoundsStayKept }
-{
-}
+{}
 
 /// Merged bounds are no less than either, and a bound is widened only so often.
 #[tactic(auto, using(crate::specs::Laws::widening_ends))]
 pub fn widening_ends()
     ensures { WideningEnds }
-{
-}
+{}

@@ -1,9 +1,9 @@
 -- Bounds stay bounds where a number changes, and what numbers meet them then.
-use Rattle.std.proofs.Common.{◌≡◌, ◌≢◌, ℕ, ◌+◌, ◌*◌, ◌^◌, ◌<◌, ◌≤◌, ◌==◌, ℤ, pos, neg_ℤ, ◌+ℤ◌, ◌-ℤ◌}
-use Rattle.std.proofs.Common.{◌≤ℤ◌, ◌<ℤ◌, Bool, true, false, ◌||◌, List, length, get_or, set, refl, sym, ap}
+use Rattle.std.proofs.Common.{◌≡◌, ◌≢◌, ℕ, ◌+◌, ◌*◌, ◌^◌, ◌<◌, ◌==◌, ℤ, pos, neg_ℤ, ◌+ℤ◌, ◌-ℤ◌}
+use Rattle.std.proofs.Common.{◌≤ℤ◌, ◌<ℤ◌, Bool, true, false, ◌||◌, List, length, set, refl, sym, ap}
 use Rattle.std.proofs.Common.{◌∙◌, subst, arith, cond, inl, inr, replicate}
 use Rattle.std.specs.Prelude.{◌⊎◌}
-use Rattle.std.specs.Int.{int_min, int_max}
+use Rattle.std.specs.Int.{int_min}
 use Rattle.std.specs.List.{All}
 use Rattle.std.proofs.lemmas.Int.{ints, clamps}
 use Rattle.std.proofs.lemmas.Bool.{cond_both, or_parts, cases_eq}
@@ -21,7 +21,7 @@ use Rattle.cpa_zone_bounds.specs.Distances.{AreInside}
 use Rattle.cpa_zone_bounds.specs.Changes.{not_below, lesser, tightened, kept_within}
 use Rattle.cpa_zone_bounds.specs.Changes.{after_change, changed}
 use Rattle.cpa_zone_bounds.specs.Changes.{is_among, Become}
-use Rattle.cpa_zone_bounds.specs.lemmas.Numbers.{min_left, min_right, to_min}
+use Rattle.cpa_zone_bounds.specs.lemmas.Numbers.{min_left, min_right}
 use Rattle.cpa_zone_bounds.specs.lemmas.Places.{entry-table, length-table, all_table, at_entry}
 use Rattle.cpa_zone_bounds.specs.lemmas.Places.{all_fit}
 use Rattle.cpa_zone_bounds.specs.lemmas.Fillings.{IsFilled, by_place, entry_left, filled_entry}
@@ -30,6 +30,12 @@ use Rattle.cpa_zone_bounds.specs.lemmas.Fillings.{filled_none, filled_all, fille
 -- numbers that the test tells apart, and one that it does not
 pub told_apart : (i j : ℕ) → (i == j) ≡ false → i ≢ j
 told_apart i j is e = absurd (cc ((Decides-eqb i j).1 e, is))
+
+pub told_other : (i j : ℕ) → (i ≡ j → ⊥) → (i == j) ≡ false
+told_other i j apart = by (i == j) refl where
+  by : (b : Bool) → (i == j) ≡ b → b ≡ false
+  by true is = absurd (apart ((Decides-eqb i j).0 is))
+  by false is = refl
 
 pub told_same : (i : ℕ) → (i == i) ≡ true
 told_same i = (Decides-eqb i i).1 refl
@@ -56,7 +62,7 @@ kept_widest ranges i j are row column =
     cond_both (i == j) (pos 0) ((range_at ranges i).greatest -ℤ (range_at ranges j).least) IsKept
     (λ same. record { low = omega (arith, ints); high = omega (arith, ints) })
     (λ other. kept_difference (range_at ranges i) (range_at ranges j)
-      (narrow_at ranges i are row) (narrow_at ranges j are column))
+    (narrow_at ranges i are row) (narrow_at ranges j are column))
 
 pub own_widest : (ranges : List Range) (i : ℕ) → widest ranges i i ≡ pos 0
 own_widest ranges i =
@@ -81,10 +87,10 @@ kept_change ranges (Shifted at by) i j d are row column kept =
     cond_both (i == j) d (cond (i == at) (kept_within ranges i j (d +ℤ by))
     (cond (j == at) (kept_within ranges i j (d -ℤ by)) d)) IsKept (λ same. kept)
     (λ other. cond_both (i == at) (kept_within ranges i j (d +ℤ by))
-      (cond (j == at) (kept_within ranges i j (d -ℤ by)) d) IsKept
-      (λ same. kept_between (widest ranges i j) (d +ℤ by) wide)
-      (λ more. cond_both (j == at) (kept_within ranges i j (d -ℤ by)) d IsKept
-        (λ same. kept_between (widest ranges i j) (d -ℤ by) wide) (λ last. kept)))
+    (cond (j == at) (kept_within ranges i j (d -ℤ by)) d) IsKept
+    (λ same. kept_between (widest ranges i j) (d +ℤ by) wide)
+    (λ more. cond_both (j == at) (kept_within ranges i j (d -ℤ by)) d IsKept
+    (λ same. kept_between (widest ranges i j) (d -ℤ by) wide) (λ last. kept)))
 
 pub own_change : (ranges : List Range) (change : Change) (i : ℕ) (d : ℤ) → d ≡ pos 0
     → after_change ranges change i i d ≡ pos 0
@@ -94,7 +100,7 @@ own_change ranges (Forgotten start end) i d own =
     (λ same. own_widest ranges i) (λ other. own)
 own_change ranges (Shifted at by) i d own =
     ap (λ b. cond b d (cond (i == at) (kept_within ranges i i (d +ℤ by))
-      (cond (i == at) (kept_within ranges i i (d -ℤ by)) d))) (told_same i)
+    (cond (i == at) (kept_within ranges i i (d -ℤ by)) d))) (told_same i)
     ∙ own
 
 pub entry-changed : (ranges : List Range) (change : Change) (most : List ℤ) (i j : ℕ)
@@ -115,8 +121,8 @@ changed-are ranges change most are = record {
   kept = all_table IsKept (length ranges)
       (λ a b. after_change ranges change a b (entry (length ranges) most a b))
       (λ i j row column. kept_change ranges change i j (entry (length ranges) most i j)
-        are.of_ranges row column
-        (at_entry IsKept (length ranges) most i j are.square row column are.kept));
+      are.of_ranges row column
+      (at_entry IsKept (length ranges) most i j are.square row column are.kept));
   own = λ i row. entry-changed ranges change most i i row row
       ∙ own_change ranges change i (entry (length ranges) most i i) (are.own i row);
 }
@@ -136,12 +142,12 @@ widest-are ranges are = record {
 pub filled_change : (ranges : List Range) (change : Change) (old now : List ℤ) (i j : ℕ)
     → length old ≡ length ranges * length ranges → i < length ranges → j < length ranges
     → IsFilled (by_place (length ranges)
-      (λ a b. after_change ranges change a b (entry (length ranges) old a b))) old now
+    (λ a b. after_change ranges change a b (entry (length ranges) old a b))) old now
     (i * length ranges + j)
     → IsFilled (by_place (length ranges)
-      (λ a b. after_change ranges change a b (entry (length ranges) old a b))) old
+    (λ a b. after_change ranges change a b (entry (length ranges) old a b))) old
     (set now (i * length ranges + j)
-      (after_change ranges change i j (entry (length ranges) now i j)))
+    (after_change ranges change i j (entry (length ranges) now i j)))
     (i * length ranges + (j + 1))
 filled_change ranges change old now i j long row column so =
     filled_entry (length ranges)
@@ -191,9 +197,9 @@ widest_meets ranges x i j row column inside =
     cond_both (i == j) (pos 0) ((range_at ranges i).greatest -ℤ (range_at ranges j).least)
     (λ z. (x i -ℤ x j) ≤ℤ z)
     (λ same. let e : i ≡ j = (Decides-eqb i j).0 same in
-      subst (λ k. (x i -ℤ x k) ≤ℤ pos 0) e (omega (arith, ints)))
+    subst (λ k. (x i -ℤ x k) ≤ℤ pos 0) e (omega (arith, ints)))
     (λ other. let high = inside.high i row in let low = inside.low j column in
-      omega (arith, ints))
+    omega (arith, ints))
 
 pub meets_widest : (ranges : List Range) (x : ℕ → ℤ) → AreInside ranges x
     → Meets (length ranges) (table (length ranges) (widest ranges)) x
@@ -225,7 +231,6 @@ meets_tightened n i j d most x long row column meets less = record {
       (sym (tightened_elsewhere n i j d most a b column second (λ same. e same.0)))
       (meets.differ a b first second)
 
-
 pub change_meets : (ranges : List Range) (change : Change) (x y : ℕ → ℤ) (i j : ℕ) (d : ℤ)
     → i < length ranges → j < length ranges → AreInside ranges y → Become ranges change x y
     → (x i -ℤ x j) ≤ℤ d → (y i -ℤ y j) ≤ℤ after_change ranges change i j d
@@ -236,32 +241,32 @@ change_meets ranges (Forgotten start end) x y i j d row column inside changes le
     (λ z. (y i -ℤ y j) ≤ℤ z)
     (λ same. widest_meets ranges y i j row column inside)
     (λ other. let parts = or_parts (is_among start end i) (is_among start end j) other in
-      let first = changes i row parts.0 in
-      let second = changes j column parts.1 in
-      omega (arith, ints, first, second))
+    let first = changes i row parts.0 in
+    let second = changes j column parts.1 in
+    omega (arith, ints, first, second))
 change_meets ranges (Shifted at by) x y i j d row column inside changes less =
     let wide = widest_meets ranges y i j row column inside in
     cond_both (i == j) d (cond (i == at) (kept_within ranges i j (d +ℤ by))
     (cond (j == at) (kept_within ranges i j (d -ℤ by)) d)) (λ z. (y i -ℤ y j) ≤ℤ z)
     (λ same. let e : i ≡ j = (Decides-eqb i j).0 same in
-      let own = subst (λ k. (x i -ℤ x k) ≤ℤ d) (sym e) less in
-      subst (λ k. (y i -ℤ y k) ≤ℤ d) e (omega (arith, ints, own)))
+    let own = subst (λ k. (x i -ℤ x k) ≤ℤ d) (sym e) less in
+    subst (λ k. (y i -ℤ y k) ≤ℤ d) e (omega (arith, ints, own)))
     (λ apart. cond_both (i == at) (kept_within ranges i j (d +ℤ by))
-      (cond (j == at) (kept_within ranges i j (d -ℤ by)) d) (λ z. (y i -ℤ y j) ≤ℤ z)
-      (λ same. let e : i ≡ at = (Decides-eqb i at).0 same in
-        let moved : y i ≡ x i +ℤ by = subst (λ k. y k ≡ x k +ℤ by) (sym e) changes.0 in
-        let stays = changes.1 j column (λ f. told_apart i j apart (e ∙ sym f)) in
-        below_kept (widest ranges i j) (d +ℤ by) (y i -ℤ y j) wide
-        (omega (arith, ints, moved, stays)))
-      (λ more. cond_both (j == at) (kept_within ranges i j (d -ℤ by)) d (λ z. (y i -ℤ y j) ≤ℤ z)
-        (λ same. let e : j ≡ at = (Decides-eqb j at).0 same in
-          let moved : y j ≡ x j +ℤ by = subst (λ k. y k ≡ x k +ℤ by) (sym e) changes.0 in
-          let stays = changes.1 i row (told_apart i at more) in
-          below_kept (widest ranges i j) (d -ℤ by) (y i -ℤ y j) wide
-          (omega (arith, ints, moved, stays)))
-        (λ last. let first = changes.1 i row (told_apart i at more) in
-          let second = changes.1 j column (told_apart j at last) in
-          omega (arith, ints, first, second))))
+    (cond (j == at) (kept_within ranges i j (d -ℤ by)) d) (λ z. (y i -ℤ y j) ≤ℤ z)
+    (λ same. let e : i ≡ at = (Decides-eqb i at).0 same in
+    let moved : y i ≡ x i +ℤ by = subst (λ k. y k ≡ x k +ℤ by) (sym e) changes.0 in
+    let stays = changes.1 j column (λ f. told_apart i j apart (e ∙ sym f)) in
+    below_kept (widest ranges i j) (d +ℤ by) (y i -ℤ y j) wide
+    (omega (arith, ints, moved, stays)))
+    (λ more. cond_both (j == at) (kept_within ranges i j (d -ℤ by)) d (λ z. (y i -ℤ y j) ≤ℤ z)
+    (λ same. let e : j ≡ at = (Decides-eqb j at).0 same in
+    let moved : y j ≡ x j +ℤ by = subst (λ k. y k ≡ x k +ℤ by) (sym e) changes.0 in
+    let stays = changes.1 i row (told_apart i at more) in
+    below_kept (widest ranges i j) (d -ℤ by) (y i -ℤ y j) wide
+    (omega (arith, ints, moved, stays)))
+    (λ last. let first = changes.1 i row (told_apart i at more) in
+    let second = changes.1 j column (told_apart j at last) in
+    omega (arith, ints, first, second))))
 
 pub meets_changed : (ranges : List Range) (change : Change) (most : List ℤ) (x y : ℕ → ℤ)
     → Meets (length ranges) most x → AreInside ranges y → Become ranges change x y
@@ -286,9 +291,12 @@ pub tightened_meets : (ranges : List Range) (most : List ℤ) (i j : ℕ) (d : �
     → AreBounds ranges most → i < length ranges → j < length ranges → AreInside ranges x
     → Meets (length ranges) (tightened (length ranges) i j d most) x
     → Meets (length ranges) most x × ((x i -ℤ x j) ≤ℤ d)
-tightened_meets ranges most i j d x are row column inside meets = (record {
-  differ = λ a b first second. by a b first second (cases_eq a i) (cases_eq b j);
-}, let right = min_right (entry (length ranges) most i j) d in omega (arith, ints, both, right)) where
+tightened_meets ranges most i j d x are row column inside meets = (
+  record {
+    differ = λ a b first second. by a b first second (cases_eq a i) (cases_eq b j);
+  },
+  let right = min_right (entry (length ranges) most i j) d in omega (arith, ints, both, right),
+) where
   both : (x i -ℤ x j) ≤ℤ int_min (entry (length ranges) most i j) d
   both = within_kept (int_min (entry (length ranges) most i j) d) (x i -ℤ x j)
       (not_far (range_at ranges i) (range_at ranges j) (x i) (x j)
@@ -296,8 +304,10 @@ tightened_meets ranges most i j d x are row column inside meets = (record {
       (inside.low i row) (inside.high j column))
       (subst (λ z. (x i -ℤ x j) ≤ℤ z)
       (tightened_at (length ranges) i j d most are.square row column) (meets.differ i j row column))
+
   here : (x i -ℤ x j) ≤ℤ entry (length ranges) most i j
   here = let left = min_left (entry (length ranges) most i j) d in omega (arith, ints, both, left)
+
   by : (a b : ℕ) → a < length ranges → b < length ranges → (a ≡ i) ⊎ (a ≡ i → ⊥)
       → (b ≡ j) ⊎ (b ≡ j → ⊥) → (x a -ℤ x b) ≤ℤ entry (length ranges) most a b
   by a b first second (inl e) (inl f) =
@@ -346,7 +356,7 @@ changed_next ranges change i old now it =
 pub changed_more : (ranges : List Range) (change : Change) (i j : ℕ) (old now new : List ℤ)
     → length old ≡ length ranges * length ranges → i < length ranges → j < length ranges
     → new ≡ set now (i * length ranges + j)
-      (after_change ranges change i j (entry (length ranges) now i j))
+    (after_change ranges change i j (entry (length ranges) now i j))
     → IsChanged ranges change old now (i * length ranges + j)
     → IsChanged ranges change old new (i * length ranges + (j + 1))
 changed_more ranges change i j old now new long row column is it = record {
@@ -432,3 +442,26 @@ pub rows_fit : (ranges : List Range) → AreRanges ranges
 rows_fit ranges are = all_fit (length ranges) are.few
 
 pub ruleset widest_rules = (zeros_kept, zeros_long, rows_fit)
+
+-- ---- the bounds of a number that grows
+
+pub shifted_row : (ranges : List Range) (row : ℕ) (by : ℤ) (i j : ℕ) (own r m : ℤ)
+    → (i ≡ j → ⊥) → i ≡ row → r ≡ kept_within ranges i j m → m ≡ own +ℤ by
+    → r ≡ after_change ranges (Shifted row by) i j own
+shifted_row ranges row by i j own r m apart same is sum =
+    is ∙ (ap (kept_within ranges i j) sum
+    ∙ sym (ap (λ b. cond b own (cond (i == row) (kept_within ranges i j (own +ℤ by))
+    (cond (j == row) (kept_within ranges i j (own -ℤ by)) own))) (told_other i j apart)
+    ∙ ap (λ b. cond b (kept_within ranges i j (own +ℤ by))
+    (cond (j == row) (kept_within ranges i j (own -ℤ by)) own)) ((Decides-eqb i row).1 same)))
+
+pub shifted_column : (ranges : List Range) (row : ℕ) (by : ℤ) (i j : ℕ) (own r m : ℤ)
+    → (i ≡ j → ⊥) → (i ≡ row → ⊥) → j ≡ row → r ≡ kept_within ranges i j m → m ≡ own -ℤ by
+    → r ≡ after_change ranges (Shifted row by) i j own
+shifted_column ranges row by i j own r m apart other same is sum =
+    is ∙ (ap (kept_within ranges i j) sum
+    ∙ sym (ap (λ b. cond b own (cond (i == row) (kept_within ranges i j (own +ℤ by))
+    (cond (j == row) (kept_within ranges i j (own -ℤ by)) own))) (told_other i j apart)
+    ∙ (ap (λ b. cond b (kept_within ranges i j (own +ℤ by))
+    (cond (j == row) (kept_within ranges i j (own -ℤ by)) own)) (told_other i row other)
+    ∙ ap (λ b. cond b (kept_within ranges i j (own -ℤ by)) own) ((Decides-eqb j row).1 same))))

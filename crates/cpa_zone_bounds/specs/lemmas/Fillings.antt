@@ -1,8 +1,8 @@
 -- A list of bounds that is written from its first place on.
-use Rattle.std.proofs.Common.{◌≡◌, ◌≢◌, ℕ, ◌+◌, ◌*◌, ◌/◌, ◌%◌, ◌<◌, ◌≤◌, ℤ, pos, ◌+ℤ◌, List, length}
-use Rattle.std.proofs.Common.{map, get_or, set, refl, sym, ap, ◌∙◌, subst, arith, below_more, inl, inr}
+use Rattle.std.proofs.Common.{◌≡◌, ℕ, ◌+◌, ◌*◌, ◌/◌, ◌%◌, ◌<◌, ◌≤◌, ℤ, pos, ◌+ℤ◌, List, length}
+use Rattle.std.proofs.Common.{get_or, set, refl, sym, ap, ◌∙◌, subst, arith, below_more, inl, inr}
 use Rattle.std.specs.Int.{int_min}
-use Rattle.std.specs.List.{range_with_len, All}
+use Rattle.std.specs.List.{All}
 use Rattle.std.proofs.lemmas.Bool.{cases_lt}
 use Rattle.std.proofs.lemmas.Nat.{mul-add-lt, div_below, mod_below}
 use Rattle.std.specs.Prelude.{◌⊎◌}
@@ -58,14 +58,14 @@ pub filled_has : (P : ℤ → Type 0) (n : ℕ) (d : ℕ → ℕ → ℤ) (old n
     → IsFilled (by_place n d) old now place → All P now
 filled_has P n d old now place long all news so =
     All-from_get_or P now (pos 0) (λ p less.
-      by p (subst (λ m. p < m) so.long less) (cases_lt p place)) where
-        by : (p : ℕ) → p < length old → (p < place) ⊎ (place ≤ p) → P (get_or now p (pos 0))
-        by p within (inl h) =
-            let inner : p < n * n = subst (λ m. p < m) long within in
-            let some = some_rows n p inner in
-            subst P (sym (so.done p h))
-            (news (p / n) (p % n) (div_below p n n some inner) (mod_below p n some))
-        by p within (inr h) = subst P (sym (so.left p h)) (All-get_or P old p (pos 0) within all)
+    by p (subst (λ m. p < m) so.long less) (cases_lt p place)) where
+      by : (p : ℕ) → p < length old → (p < place) ⊎ (place ≤ p) → P (get_or now p (pos 0))
+      by p within (inl h) =
+          let inner : p < n * n = subst (λ m. p < m) long within in
+          let some = some_rows n p inner in
+          subst P (sym (so.done p h))
+          (news (p / n) (p % n) (div_below p n n some inner) (mod_below p n some))
+      by p within (inr h) = subst P (sym (so.left p h)) (All-get_or P old p (pos 0) within all)
 
 -- what is not written yet is as it was
 pub entry_left : (n : ℕ) (d : ℕ → ℕ → ℤ) (old now : List ℤ) (i j : ℕ)

@@ -1,13 +1,13 @@
 -- No bound leaves what is kept: so no sum of two wraps.
-use Rattle.std.proofs.Common.{◌≡◌, ℕ, zero, suc, ◌+◌, ◌*◌, ◌^◌, ◌<◌, ◌≤◌, ℤ, pos, neg_ℤ, ◌+ℤ◌, ◌-ℤ◌}
-use Rattle.std.proofs.Common.{◌≤ℤ◌, Bool, true, false, List, length, refl, sym, ap, ◌∙◌, subst, arith}
+use Rattle.std.proofs.Common.{◌≡◌, ℕ, zero, suc, ◌*◌, ◌<◌, ◌≤◌, ℤ, pos, ◌+ℤ◌}
+use Rattle.std.proofs.Common.{◌≤ℤ◌, true, List, length, sym, subst, arith}
 use Rattle.std.proofs.Common.{inl, inr}
 use Rattle.std.specs.Prelude.{int_le, ◌⊎◌}
-use Rattle.std.specs.Int.{int_min, int_max}
+use Rattle.std.specs.Int.{int_min}
 use Rattle.std.specs.List.{All}
 use Rattle.std.proofs.lemmas.Int.{ints, clamps}
 use Rattle.std.proofs.lemmas.Bool.{and_parts, cases_lt}
-use Rattle.cpa_zone_bounds.specs.Distances.{entry, table, far, IsKept}
+use Rattle.cpa_zone_bounds.specs.Distances.{entry, IsKept}
 use Rattle.cpa_zone_bounds.specs.Closures.{by_way, come_back, through}
 use Rattle.cpa_zone_bounds.specs.lemmas.Numbers.{from_le}
 use Rattle.cpa_zone_bounds.specs.lemmas.Places.{all_table, at_entry}

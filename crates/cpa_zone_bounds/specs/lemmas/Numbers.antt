@@ -1,7 +1,7 @@
 -- Tests of orders, and sums of the lesser of two numbers.
-use Rattle.std.proofs.Common.{◌≡◌, ℤ, pos, ◌+ℤ◌, ◌-ℤ◌, ◌≤ℤ◌, ◌<ℤ◌, Bool, true, false, arith, refl}
+use Rattle.std.proofs.Common.{◌≡◌, ℤ, pos, ◌+ℤ◌, ◌≤ℤ◌, ◌<ℤ◌, true, false, arith}
 use Rattle.std.specs.Prelude.{int_le, int_lt}
-use Rattle.std.specs.Int.{int_max, int_min}
+use Rattle.std.specs.Int.{int_min}
 use Rattle.std.proofs.lemmas.Int.{ints, clamps}
 
 pub le_true : (a b : ℤ) → a ≤ℤ b → int_le a b ≡ true

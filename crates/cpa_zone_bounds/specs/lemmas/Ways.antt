@@ -3,9 +3,8 @@ use Rattle.std.proofs.Common.{◌≡◌, ℕ, zero, suc, ◌+◌, ◌*◌, ◌<�
 use Rattle.std.proofs.Common.{true, false, List, length, refl, sym, ap, ◌∙◌, subst, arith, cond, inl}
 use Rattle.std.proofs.Common.{inr}
 use Rattle.std.specs.Prelude.{int_le, Option, None, Some, option_and_then, ◌⊎◌}
-use Rattle.std.specs.Int.{int_min}
 use Rattle.std.specs.List.{All}
-use Rattle.std.proofs.lemmas.Int.{ints, clamps}
+use Rattle.std.proofs.lemmas.Int.{ints}
 use Rattle.std.proofs.lemmas.Bool.{cases_lt}
 use Rattle.cpa_zone_bounds.specs.Distances.{entry, IsKept, AreOwn, AreBounds, Meets}
 use Rattle.cpa_zone_bounds.specs.declared.ranges.Range.{Range}
@@ -178,13 +177,13 @@ pub stuck_means : (n k : ℕ) (most : List ℤ) (x : ℕ → ℤ) → k ≤ n �
 stuck_means n zero most x h owns is meets = absurd (cc)
 stuck_means n (suc k) most x h owns is meets =
     by (λ none. stuck_means n k most x (omega arith) owns none meets) (last_stuck n k most is) where
-  by : (closed_through n k most ≡ None → ⊥) → (closed_through n k most ≡ None) ⊎ Stuck n k most → ⊥
-  by earlier (inl none) = earlier none
-  by earlier (inr stuck) =
-      let mid : k < n = omega arith in
-      let it = stages n k most stuck.mid (omega arith) owns stuck.before in
-      let back = meets_back n k stuck.mid x mid (it.meets x meets) n (omega arith) in
-      absurd (cc (back, stuck.back))
+      by : (closed_through n k most ≡ None → ⊥) → (closed_through n k most ≡ None) ⊎ Stuck n k most → ⊥
+      by earlier (inl none) = earlier none
+      by earlier (inr stuck) =
+          let mid : k < n = omega arith in
+          let it = stages n k most stuck.mid (omega arith) owns stuck.before in
+          let back = meets_back n k stuck.mid x mid (it.meets x meets) n (omega arith) in
+          absurd (cc (back, stuck.back))
 
 -- a stage that is stuck leaves the later ones without bounds
 pub none_stays : (n k m : ℕ) (most : List ℤ) → k ≤ m → closed_through n k most ≡ None
@@ -193,11 +192,11 @@ none_stays n k zero most h is =
     let e : k ≡ zero = omega arith in subst (λ a. closed_through n a most ≡ None) e is
 none_stays n k (suc m) most h is =
     by (λ more. none_stays n k m most more is) (cases_lt m k) where
-  by : (k ≤ m → closed_through n m most ≡ None) → (m < k) ⊎ (k ≤ m)
-      → closed_through n (suc m) most ≡ None
-  by before (inl less) =
-      let e : k ≡ suc m = omega arith in subst (λ a. closed_through n a most ≡ None) e is
-  by before (inr more) = ap (option_and_then (opened n m)) (before more)
+      by : (k ≤ m → closed_through n m most ≡ None) → (m < k) ⊎ (k ≤ m)
+          → closed_through n (suc m) most ≡ None
+      by before (inl less) =
+          let e : k ≡ suc m = omega arith in subst (λ a. closed_through n a most ≡ None) e is
+      by before (inr more) = ap (option_and_then (opened n m)) (before more)
 
 -- a test that fails for the first rows fails for more
 pub stays_false : (n k r m : ℕ) (most : List ℤ) → r ≤ m → come_back n k most r ≡ false
@@ -206,12 +205,12 @@ stays_false n k r zero most h is =
     let e : r ≡ zero = omega arith in subst (λ a. come_back n k most a ≡ false) e is
 stays_false n k r (suc m) most h is =
     by (λ more. stays_false n k r m most more is) (cases_lt m r) where
-  by : (r ≤ m → come_back n k most m ≡ false) → (m < r) ⊎ (r ≤ m)
-      → come_back n k most (suc m) ≡ false
-  by before (inl less) =
-      let e : r ≡ suc m = omega arith in subst (λ a. come_back n k most a ≡ false) e is
-  by before (inr more) =
-      ap (λ b. b && int_le (pos 0) (entry n most m k +ℤ entry n most k m)) (before more)
+      by : (r ≤ m → come_back n k most m ≡ false) → (m < r) ⊎ (r ≤ m)
+          → come_back n k most (suc m) ≡ false
+      by before (inl less) =
+          let e : r ≡ suc m = omega arith in subst (λ a. come_back n k most a ≡ false) e is
+      by before (inr more) =
+          ap (λ b. b && int_le (pos 0) (entry n most m k +ℤ entry n most k m)) (before more)
 
 -- ---- the closure
 
@@ -243,9 +242,10 @@ closure_before n most own x owns is m = (stages n n most own (omega arith) owns 
 
 pub closure_least : (n : ℕ) (most own : List ℤ) (i j : ℕ) → AreOwn n most
     → closure n most ≡ Some own → i < n → j < n → (x : ℕ → ℤ) × Attains n own i j x
-closure_least n most own i j owns is row column =
-    (λ a. entry n own a j -ℤ entry n own 0 j,
-    attained n own i j (closure_closed n most own owns is) row column)
+closure_least n most own i j owns is row column = (
+  λ a. entry n own a j -ℤ entry n own 0 j,
+  attained n own i j (closure_closed n most own owns is) row column,
+)
 
 pub closure_none : (n : ℕ) (most : List ℤ) (x : ℕ → ℤ) → AreOwn n most
     → closure n most ≡ None → Meets n most x → ⊥
@@ -354,5 +354,7 @@ open_fails n k old b says does =
     ap (λ t. cond t (Some (through n k old)) None) (sym (sym says ∙ does))
 
 pub ruleset closing_rules = (close_more, close_fails, close_all)
+
 pub ruleset opening_rules = (open_kept, open_own, open_is, open_fails)
+
 pub ruleset back_rules = (back_more, back_fails, back_all)

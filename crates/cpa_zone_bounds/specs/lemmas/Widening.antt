@@ -1,16 +1,16 @@
 -- What bounds are merged to, and that widening ends.
-use Rattle.std.proofs.Common.{◌≡◌, ℕ, ◌+◌, ◌<◌, ◌≤◌, ℤ, ◌≤ℤ◌, ◌<ℤ◌, Bool, true, false, List, [], ◌∷◌}
+use Rattle.std.proofs.Common.{◌≡◌, ◌+◌, ◌<◌, ◌≤◌, ℤ, ◌≤ℤ◌, ◌<ℤ◌, Bool, true, false, List, [], ◌∷◌}
 use Rattle.std.proofs.Common.{length, refl, sym, ap, ◌∙◌, subst, arith, cond, inl, inr}
 use Rattle.std.specs.Prelude.{int_le, int_lt, ◌⊎◌}
-use Rattle.std.specs.Int.{int_max, int_min}
+use Rattle.std.specs.Int.{int_min}
 use Rattle.std.specs.List.{list_any}
 use Rattle.std.specs.Ordering.{int_eq}
 use Rattle.std.proofs.lemmas.Int.{ints, clamps}
 use Rattle.std.proofs.lemmas.Bool.{or_left, or_right, or_cases}
 use Rattle.std.proofs.lemmas.Bool.Decides.{Decides-int_eq}
 use Rattle.cpa_zone_bounds.specs.Limits.{next_number, joined, widened, one_where, count_above, steps}
-use Rattle.cpa_zone_bounds.specs.lemmas.Numbers.{from_le, from_not_le, le_true, le_false, lt_true}
-use Rattle.cpa_zone_bounds.specs.lemmas.Numbers.{lt_false, from_lt, from_not_lt}
+use Rattle.cpa_zone_bounds.specs.lemmas.Numbers.{from_le, from_not_le, le_false, lt_true}
+use Rattle.cpa_zone_bounds.specs.lemmas.Numbers.{lt_false, from_lt}
 
 pub joined_old : (old new : ℤ) → old ≤ℤ joined old new
 joined_old old new = omega (arith, ints, clamps)
