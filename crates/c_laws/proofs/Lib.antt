@@ -6,6 +6,7 @@ mod Spells
 mod Spelt
 mod Equations
 mod SpeltExpressions
+mod SpeltSpecifiers
 mod SpeltText
 mod SpeltItems
 mod Regrown

@@ -68,8 +68,8 @@ use Rattle.c_laws.proofs.Spelt.{spelt_many}
 use Rattle.c_laws.proofs.Spelt.{spelt_perhaps, behind_place}
 use Rattle.c_laws.proofs.SpeltExpressions.{SpeltGrammar, terminal_is, is_mark}
 use Rattle.c_laws.proofs.SpeltExpressions.{known_mark}
-use Rattle.c_laws.proofs.SpeltText.{spelt_identifier, spelt_specifiers, spelt_tag}
-use Rattle.c_laws.proofs.SpeltText.{spelt_enumeration}
+use Rattle.c_laws.proofs.SpeltSpecifiers.{spelt_specifiers, spelt_tag}
+use Rattle.c_laws.proofs.SpeltText.{spelt_identifier, spelt_enumeration}
 use Rattle.c_laws.proofs.SpeltText.{same_attributes, spelt_attributes}
 use Rattle.c_laws.proofs.SpeltText.{spelt_declarator_rest}
 use Rattle.c_laws.proofs.SpeltText.{spelt_more_declarators, spelt_block_items}

@@ -1,10 +1,9 @@
 -- Declarations, statements and items are spelled by their trees, and so is a text.
-use Rattle.std.specs.Prelude.{◌≡◌, ◌⊎◌, ℕ, ◌+◌, ◌-◌, zero, suc, Bool, true, false, not, ◌&&◌}
-use Rattle.std.specs.Prelude.{is_some, List, [], ◌∷◌, ◌++◌, Option, None, Some, refl, option_map}
-use Rattle.std.proofs.Common.{sym, ◌∙◌, ap, subst, arith, inl, inr, append_assoc}
-use Rattle.std.proofs.lemmas.Bool.{and_parts, and_from}
-use Rattle.c_grammar_forms.specs.Forms.{World, Form, Empty, Before, Pair, Then, Node, Shaped}
-use Rattle.c_grammar_forms.specs.Forms.{Deeper, Choice, Many, listed as first_listed}
+use Rattle.std.specs.Prelude.{◌≡◌, ◌⊎◌, ℕ, ◌+◌, ◌-◌, zero, suc, Bool, true, false, not, is_some}
+use Rattle.std.specs.Prelude.{List, [], ◌∷◌, ◌++◌, Option, None, Some, refl, option_map}
+use Rattle.std.proofs.Common.{sym, ◌∙◌, ap, subst, arith, inl, inr}
+use Rattle.c_grammar_forms.specs.Forms.{World, Form, Before, Pair, Then, Node, Deeper, Choice, Many}
+use Rattle.c_grammar_forms.specs.Forms.{listed as first_listed}
 use Rattle.c_grammar_symbols.specs.declared.words.Terminal.{Terminal}
 use Rattle.c_grammar_symbols.specs.declared.words.Terminal.TheVariants as terminal
 use Rattle.c_grammar_symbols.specs.declared.operators.AssignmentOperator.TheVariants as assign
@@ -14,7 +13,6 @@ use Rattle.c_grammar_symbols.specs.Symbols.{Leaf, symbol_of}
 use Rattle.c_grammar_symbols.specs.Sources.{is, is_terminal}
 use Rattle.c_grammar_tree.specs.declared.name.Name.{Name}
 use Rattle.c_grammar_tree.specs.declared.declaration.Declarator.{Declarator}
-use Rattle.c_grammar_tree.specs.declared.declaration.Enumeration.{Enumeration}
 use Rattle.c_grammar_tree.specs.declared.declaration.Enumerator.{Enumerator}
 use Rattle.c_grammar_tree.specs.declared.expression.Expression.{Expression, out-Expression}
 use Rattle.c_grammar_tree.specs.declared.expression.Expression.{roll-Expression}
@@ -22,223 +20,47 @@ use Rattle.c_grammar_tree.specs.declared.expression.Expression.{roll-out-Express
 use Rattle.c_grammar_tree.specs.declared.expression.Expression.TheOpen.{Expression-F}
 use Rattle.c_grammar_tree.specs.declared.expression.Expression.TheVariants as expression
 use Rattle.c_grammar_tree.specs.declared.expression.Suffix.{Suffix}
-use Rattle.c_grammar_tree.specs.declared.declaration.SpecifierKind.TheVariants as kind
 use Rattle.c_grammar_tree.specs.declared.declaration.Initializer.TheVariants as initializer
 use Rattle.c_grammar_tree.specs.declared.statement.Statement.{Statement}
 use Rattle.c_grammar_tree.specs.declared.statement.Statement.TheVariants as node
-use Rattle.c_grammar_tree.specs.Parts.{is_not, is_listed, names, begins_declared, types}
-use Rattle.c_grammar_tree.specs.Parts.{specifies_locally, initializes, have_part, have_word}
-use Rattle.c_grammar_tree.specs.Parts.{is_keyword}
-use Rattle.c_grammar_tree.specs.Parts.{bare_name}
-use Rattle.c_grammar_tree.specs.Parts.{name_layer}
+use Rattle.c_grammar_tree.specs.Parts.{is_not, is_listed, names, specifies_locally, initializes}
+use Rattle.c_grammar_tree.specs.Parts.{bare_name, name_layer}
 use Rattle.c_grammar_tree.specs.Nested.{Grammar}
 use Rattle.c_grammar_tree.specs.Expressions.{comma, list_of}
-use Rattle.c_grammar_tree.specs.declared.declaration.Specifier.{Specifier}
-use Rattle.c_grammar_tree.specs.Declarations.{identifier, specifier_at, keywords, qualifiers, Words}
-use Rattle.c_grammar_tree.specs.Declarations.{declared_type_at, declared_type, specifiers, tag}
-use Rattle.c_grammar_tree.specs.Declarations.{attribute, enumerator, enumerators, enumerator_list}
-use Rattle.c_grammar_tree.specs.Declarations.{tagged, enumeration_by, enumeration}
-use Rattle.c_grammar_tree.specs.Declarations.{attributes}
-use Rattle.c_grammar_tree.specs.Declarations.{comma_or_end_at, element, list, initializer_of, array}
-use Rattle.c_grammar_tree.specs.Declarations.{array_part, declarator_rest, declarator}
-use Rattle.c_grammar_tree.specs.Declarations.{more_declarators, declarators, declarators_by}
-use Rattle.c_grammar_tree.specs.Declarations.{declaration_by}
+use Rattle.c_grammar_tree.specs.Declarations.{identifier, attribute, enumerator, enumerators}
+use Rattle.c_grammar_tree.specs.Declarations.{enumerator_list, tagged, enumeration_by, enumeration}
+use Rattle.c_grammar_tree.specs.Declarations.{attributes, comma_or_end_at, element, list}
+use Rattle.c_grammar_tree.specs.Declarations.{initializer_of, array, array_part, declarator_rest}
+use Rattle.c_grammar_tree.specs.Declarations.{declarator, more_declarators, declarators}
+use Rattle.c_grammar_tree.specs.Declarations.{declarators_by, declaration_by}
 use Rattle.c_grammar_tree.specs.Statements.{block_items, items, condition}
-use Rattle.c_grammar_tree.specs.Statements.{optional as optional_before}
-use Rattle.c_grammar_tree.specs.Statements.{for_start}
-use Rattle.c_grammar_tree.specs.Statements.{behind_comma_at, labeled_or_not, statement_at}
-use Rattle.c_grammar_tree.specs.Statements.{statement}
-use Rattle.c_grammar_tree.specs.Statements.{item_by, item}
+use Rattle.c_grammar_tree.specs.Statements.{optional as optional_before, for_start, behind_comma_at}
+use Rattle.c_grammar_tree.specs.Statements.{labeled_or_not, statement_at, statement, item_by, item}
 use Rattle.c_grammar_tree.specs.Grammar.{grammar}
 use Rattle.c_laws.specs.Plain.{plain_text}
-use Rattle.c_laws.specs.Spelling.{Piece, placed, named, comma_or_not, any_attributes}
-use Rattle.c_laws.specs.Spelling.{mark, in_order, listed, ended, optional}
-use Rattle.c_laws.specs.Spelling.{spelled_expression, spelled_specifier}
-use Rattle.c_laws.specs.Spelling.{spelled_specifiers, spelled_array}
-use Rattle.c_laws.specs.Spelling.{spelled_enumerator, spelled_enumerators}
-use Rattle.c_laws.specs.Spelling.{spelled_enumeration}
-use Rattle.c_laws.specs.Spelling.{spelled_initializer}
-use Rattle.c_laws.specs.Spelling.{spelled_rest, spelled_declarator, spelled_declaration}
-use Rattle.c_laws.specs.Spelling.{in_brackets, closed, spelled_start}
-use Rattle.c_laws.specs.Spelling.{spelled_block_item}
-use Rattle.c_laws.specs.Spelling.{spelled_statement}
-use Rattle.c_laws.proofs.Spells.{Laid, spells_none, spells_piece, spells_one, joins}
-use Rattle.c_laws.proofs.Spells.{opened}
-use Rattle.c_laws.proofs.Spells.{halves}
+use Rattle.c_laws.specs.Spelling.{Piece, named, comma_or_not, any_attributes, mark, in_order}
+use Rattle.c_laws.specs.Spelling.{listed, ended, optional, spelled_expression, spelled_array}
+use Rattle.c_laws.specs.Spelling.{spelled_enumerator, spelled_enumerators, spelled_enumeration}
+use Rattle.c_laws.specs.Spelling.{spelled_initializer, spelled_rest, spelled_declarator}
+use Rattle.c_laws.specs.Spelling.{spelled_declaration, in_brackets, closed, spelled_start}
+use Rattle.c_laws.specs.Spelling.{spelled_block_item, spelled_statement}
+use Rattle.c_laws.proofs.Spells.{Laid, spells_none, spells_piece, spells_one, joins, opened, halves}
 use Rattle.c_laws.proofs.Spells.{only, ends_there}
-use Rattle.c_laws.proofs.Spelt.{Look, blind, careful, sharp, Follows, Any, Is, Spelt}
-use Rattle.c_laws.proofs.Spelt.{Made, plainly, at_place}
-use Rattle.c_laws.proofs.Spelt.{spelt_nothing, spelt_any, spelt_behind, spelt_sharp}
-use Rattle.c_laws.proofs.Spelt.{spelt_one, spelt_skip, spelt_opened, spelt_such}
-use Rattle.c_laws.proofs.Spelt.{spelt_closed, spelt_pair, spelt_pair_by, spelt_then}
-use Rattle.c_laws.proofs.Spelt.{spelt_then_by, spelt_node_read}
-use Rattle.c_laws.proofs.Spelt.{spelt_node, spelt_choice, spelt_many, spelt_some}
-use Rattle.c_laws.proofs.Spelt.{spelt_perhaps, spelt_nearest, spelt_front}
-use Rattle.c_laws.proofs.Spelt.{spelt_empty, spelt_cases, spelt_shaped}
-use Rattle.c_laws.proofs.SpeltExpressions.{SpeltGrammar, is_mark, known_mark, name_is}
-pub use Rattle.c_laws.proofs.SpeltExpressions.{spelt_identifier}
-use Rattle.c_laws.proofs.SpeltExpressions.{spelt_comma}
-use Rattle.c_laws.proofs.SpeltExpressions.{spelt_assignment, spelt_conditional}
-use Rattle.c_laws.proofs.SpeltExpressions.{spelt_cast}
+use Rattle.c_laws.proofs.Spelt.{Look, blind, careful, sharp, Follows, Any, Is, Spelt, Made, plainly}
+use Rattle.c_laws.proofs.Spelt.{at_place, spelt_nothing, spelt_any, spelt_behind, spelt_sharp}
+use Rattle.c_laws.proofs.Spelt.{spelt_one, spelt_skip, spelt_opened, spelt_such, spelt_closed}
+use Rattle.c_laws.proofs.Spelt.{spelt_pair, spelt_then, spelt_node_read, spelt_node, spelt_choice}
+use Rattle.c_laws.proofs.Spelt.{spelt_many, spelt_perhaps, spelt_nearest, spelt_front}
+use Rattle.c_laws.proofs.SpeltExpressions.{SpeltGrammar, is_mark, known_mark, name_is, spelt_comma}
+use Rattle.c_laws.proofs.SpeltExpressions.{spelt_assignment, spelt_conditional, spelt_cast}
 use Rattle.c_laws.proofs.SpeltExpressions.{spelt_unary}
+pub use Rattle.c_laws.proofs.SpeltExpressions.{spelt_identifier}
 use Rattle.c_laws.proofs.Equations as equation
+use Rattle.c_laws.proofs.SpeltSpecifiers.{spelt_tag, spelt_specifiers}
 
 initializer_is : (s : Symbol) → initializes s ≡ true → s ≡ symbol.Assign assign.Assign
 initializer_is (symbol.Assign assign.Assign) e = refl
 initializer_is _ e = absurd (let clash : false ≡ true = e in cc)
-
--- what an enumerated type is makes no difference to a word that is not enum
-spelt_specifier_at : {left : ℕ} {behind : Look} (found : Option Enumeration) (s : Symbol) →
-    Spelt (Is s) (specifier_at s) (spelled_specifier found) left behind sharp
-unfolding specifier_at
-spelt_specifier_at found (symbol.Storage w) = spelt_node _ (spelt_one (symbol.Storage w))
-    (λ u. at_place (λ x. refl)
-    (λ x y e. ap (λ place. record { kind = kind.Storage w; place = place }) e))
-spelt_specifier_at found (symbol.Specifier w) = spelt_node _ (spelt_one (symbol.Specifier w))
-    (λ u. at_place (λ x. refl)
-    (λ x y e. ap (λ place. record { kind = kind.Other w; place = place }) e))
-spelt_specifier_at found (symbol.TypeWord w) = spelt_node _ (spelt_one (symbol.TypeWord w))
-    (λ u. at_place (λ x. refl)
-    (λ x y e. ap (λ place. record { kind = kind.TypeWord w; place = place }) e))
-spelt_specifier_at found _ = spelt_nothing
-
--- a tag alone
-pub spelt_tag : {left : ℕ} {behind : Look} → Spelt Any tag spelled_enumeration left behind sharp
-unfolding tag
-spelt_tag = spelt_node _ spelt_identifier (λ name. plainly (λ x. refl) (λ x y. refl))
-
--- words of specifiers in two rows
-abbrev Rows : Type 0
-Rows = List Specifier × Words
-
-abbrev spelled_words : Words → List Piece
-spelled_words words = in_order (spelled_specifier words.1) words.0
-
-abbrev spelled_rows : Rows → List Piece
-spelled_rows rows = in_order (spelled_specifier rows.1.1) rows.0 ++ spelled_words rows.1
-
-both_rows : (found : Option Enumeration) (xs ys : List Specifier) →
-    in_order (spelled_specifier found) (xs ++ ys) ≡ spelled_rows (xs, (ys, found))
-both_rows found [] ys = refl
-both_rows found (x ∷ xs) ys = ap (λ rest. spelled_specifier found x ++ rest) (both_rows found xs ys)
-    ∙ sym (append_assoc (spelled_specifier found x) (in_order (spelled_specifier found) xs)
-    (in_order (spelled_specifier found) ys))
-
-abbrev goes_so : (Symbol → Bool) → Leaf → Bool
-goes_so class leaf = class (symbol_of leaf)
-
-module _ (E : Form Leaf Enumeration) (class : Symbol → Bool) {left : ℕ}
-    (c : Spelt Any E spelled_enumeration left blind sharp) where
-  abbrev any_words : Form Leaf Rows
-  any_words =
-      Then (keywords (goes_so class)) (λ front. declared_type E (goes_so class) (have_word front))
-
-  -- with a word of a type among the first
-  abbrev typed_words : Form Leaf Rows
-  typed_words = Then (Shaped (λ words. have_part words && have_word words)
-      (Many (is_keyword (goes_so class)) (Choice symbol_of specifier_at)))
-      (λ front. Node (λ leaf u. ([], None)) Empty)
-
-  -- with a type that the text declares
-  abbrev untyped_words : Form Leaf Rows
-  untyped_words =
-      Then (keywords (goes_so class)) (λ front. declared_type E (goes_so class) false)
-
-  spelt_typed : {behind : Look} → Spelt Any typed_words spelled_rows left behind sharp
-  spelt_typed {behind} = spelt_then_by {inner = behind}
-      (λ words. spelt_some (λ s. class s && not (begins_declared s)) {K = Any} (λ x e. tt)
-      (spelt_choice (λ s. s) (spelt_specifier_at words.1))
-      (λ front. have_part front && have_word front) refl)
-      (λ front. spelt_empty ([], None) refl)
-
-  spelt_keywords : (found : Option Enumeration) → Spelt Any (keywords (goes_so class))
-      (in_order (spelled_specifier found)) left sharp sharp
-  unfolding keywords
-  spelt_keywords found = spelt_shaped have_part
-      (spelt_many (λ s. class s && not (begins_declared s)) {K = Any} (λ x e. tt)
-      (spelt_choice (λ s. s) (spelt_specifier_at found)))
-
-  spelt_qualifiers : {behind : Look} (found : Option Enumeration) →
-      Spelt Any (qualifiers (goes_so class)) (in_order (spelled_specifier found)) left behind behind
-  unfolding qualifiers
-  spelt_qualifiers found = spelt_many
-      (λ s. (class s && not (begins_declared s)) && not (types s)) {K = Any} (λ x e. tt)
-      (spelt_choice (λ s. s) (spelt_specifier_at found))
-
-  spelt_declared_type_at : {behind : Look} (s : Symbol) → Spelt (Is s)
-      (declared_type_at E (goes_so class) s) spelled_words left behind sharp
-  unfolding declared_type_at
-  spelt_declared_type_at (symbol.TypedefName t) = spelt_node _
-      (spelt_skip (symbol.TypedefName t) (spelt_qualifiers None))
-      (λ words. at_place (λ x. refl)
-      (λ x y e. ap (λ place.
-      (record { kind = kind.TypedefName t; place = place } ∷ words, None)) e))
-  spelt_declared_type_at (symbol.Terminal terminal.Enum) = spelt_node _
-      (spelt_skip (symbol.Terminal terminal.Enum)
-      (spelt_pair_by (spelt_behind c) (λ found. spelt_qualifiers (Some found))))
-      (λ parts. at_place (λ x. refl)
-      (λ x y e. ap (λ place.
-      (record { kind = kind.Enum; place = place } ∷ parts.1, Some parts.0)) e))
-  spelt_declared_type_at _ = spelt_nothing
-
-  spelt_declared_type : {behind : Look} →
-      Spelt Any (declared_type E (goes_so class) false) spelled_words left behind sharp
-  unfolding declared_type
-  spelt_declared_type = spelt_choice (λ s. s) spelt_declared_type_at
-
-  to_typed : (w : World Leaf) (p : ℕ) (u : Rows) (q : ℕ) → have_word u.0 ≡ true →
-      any_words w left p u q → typed_words w left p u q
-  unfolding keywords declared_type
-  to_typed w p u q e r = record {
-    middle = r.middle;
-    first = record { read = r.first.read; passes = and_from _ _ r.first.passes e };
-    second =
-        subst (λ b. declared_type E (goes_so class) b w left r.middle u.1 q) e r.second;
-  }
-
-  from_typed : (w : World Leaf) (p : ℕ) (u : Rows) (q : ℕ) → have_word u.0 ≡ true →
-      typed_words w left p u q → any_words w left p u q
-  unfolding keywords declared_type
-  from_typed w p u q e r = record {
-    middle = r.middle;
-    first = record { read = r.first.read; passes = (and_parts _ _ r.first.passes).0 };
-    second =
-        subst (λ b. declared_type E (goes_so class) b w left r.middle u.1 q) (sym e) r.second;
-  }
-
-  to_untyped : (w : World Leaf) (p : ℕ) (u : Rows) (q : ℕ) → have_word u.0 ≡ false →
-      any_words w left p u q → untyped_words w left p u q
-  to_untyped w p u q e r = record {
-    middle = r.middle;
-    first = r.first;
-    second =
-        subst (λ b. declared_type E (goes_so class) b w left r.middle u.1 q) e r.second;
-  }
-
-  from_untyped : (w : World Leaf) (p : ℕ) (u : Rows) (q : ℕ) → have_word u.0 ≡ false →
-      untyped_words w left p u q → any_words w left p u q
-  from_untyped w p u q e r = record {
-    middle = r.middle;
-    first = r.first;
-    second =
-        subst (λ b. declared_type E (goes_so class) b w left r.middle u.1 q) (sym e) r.second;
-  }
-
-  pub spelt_specifiers : {behind : Look} →
-      Spelt Any (specifiers E (goes_so class)) spelled_specifiers left behind sharp
-  unfolding specifiers
-  spelt_specifiers = spelt_node _
-      (spelt_cases (λ rows. have_word rows.0) any_words to_typed from_typed to_untyped
-      from_untyped spelt_typed
-      (spelt_then_by {inner = sharp} (λ words. spelt_keywords words.1)
-      (λ front. spelt_declared_type)))
-      (λ parts. at_place (λ x. ap (λ list. placed x.place ∷ list)
-      (both_rows parts.1.1 parts.0 parts.1.0))
-      (λ x y e. ap (λ place. record {
-        words = parts.0 ++ parts.1.0;
-        enumeration = parts.1.1;
-        place = place;
-      }) e))
 
 -- attributes are the same in each text
 same_attribute : (at : ℕ → Leaf) (edge other left less p : ℕ) (u : Unit {0}) (q : ℕ) →
