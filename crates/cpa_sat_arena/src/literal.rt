@@ -132,13 +132,6 @@ impl PackedLit {
         }
     }
 
-    /// Whether it is its variable, not negated.
-    pub fn is_positive(self) -> bool
-        ensures { result ≡ (self % 2 == 0) }
-    {
-        self.code % 2 == 0
-    }
-
     /// Whether it is the negation of its variable.
     pub fn is_negative(self) -> bool
         ensures { result ≡ (self % 2 == 1) }

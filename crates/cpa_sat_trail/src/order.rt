@@ -1,6 +1,8 @@
 //! Which literal to decide next (VSIDS: Moskewicz et al. 2001; as in MiniSat), and when to restart
 //! (Luby, Sinclair and Zuckerman 1993). Nothing rests on either but speed.
 
+ghost use Rattle.std.specs.Prelude.{◌<◌};
+
 use crate::trail::{NO_PLACE, VARS_LIMIT};
 use cpa_sat_arena::{PackedLit, Var};
 use std::alloc::{AllocError, Global};
@@ -91,7 +93,7 @@ impl Order {
             if here == 0 {
                 break;
             }
-            let parent = (here - 1) / 2;
+            let parent = parent_of(here);
             let above = self.at(parent);
             if self.activity(var) <= self.activity(above) {
                 break;
@@ -104,7 +106,7 @@ impl Order {
 
     /// The child of the place with the greater activity, NO_PLACE where it has no child.
     fn child(&self, slot: u32) -> u32 {
-        let left = u64::from(slot) * 2 + 1;
+        let left = left_of(slot);
         if left >= self.heap.len() as u64 || left + 1 >= u64::from(NO_PLACE) {
             return NO_PLACE;
         }
@@ -204,6 +206,18 @@ impl Order {
         }
         self.step *= SCALE;
     }
+}
+
+/// The place above this one in a heap.
+fn parent_of(slot: u32) -> u32
+    requires { 0 < slot }
+{
+    (slot - 1) / 2
+}
+
+/// The first of the two places below this one in a heap.
+fn left_of(slot: u32) -> u64 {
+    u64::from(slot) * 2 + 1
 }
 
 /// The lengths between restarts: the Luby sequence in units of a hundred conflicts.

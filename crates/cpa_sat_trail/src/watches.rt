@@ -17,16 +17,6 @@ pub(crate) struct Watch {
     pub(crate) blocker: PackedLit,
 }
 
-impl Watch {
-    /// The same watch.
-    fn again(&self) -> Watch {
-        Watch {
-            clause: self.clause,
-            blocker: self.blocker,
-        }
-    }
-}
-
 /// The watches of all literals.
 #[derive(Drop)]
 pub struct Watches {
@@ -112,7 +102,7 @@ impl Watches {
         if number < self.pairs.len() {
             self.pairs[number] = LitPair::new(self.pairs[number].other(from), to);
         }
-        self.push(to, watch.again())
+        self.push(to, *watch)
     }
 
     /// Watches two literals of a clause.
@@ -199,7 +189,7 @@ pub(crate) fn watch_at(list: &[Watch], place: usize) -> Watch {
 /// Keeps a watch at the place; the place behind it.
 pub(crate) fn keep(list: &mut [Watch], place: usize, watch: &Watch) -> usize {
     if place < list.len() {
-        list[place] = watch.again();
+        list[place] = *watch;
         place + 1
     } else {
         place
