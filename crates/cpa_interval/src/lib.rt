@@ -12,3 +12,4 @@ mod transfer;
 mod widening;
 
 pub use interval::Interval;
+pub use numbers::near_numbers;

@@ -70,14 +70,21 @@ fn text(answer: &Result<Conclusion, Refusal>) -> &[u8]
     }
 }
 
-/// Writes the answer's text, and gives the number of its status, or of that of a failed write.
-pub(crate) fn deliver<K: Sink>(answer: &Result<Conclusion, Refusal>, out: &mut K) -> u8
-    ensures { IsDelivered (status_of answer.now) (text_of answer.now)
-        (output_by K.written K.faults out.old out.new) result }
+/// Writes a text, and gives the number of its status, or of that of a failed write.
+pub fn deliver_text<K: Sink>(status: Status, text: &[u8], out: &mut K) -> u8
+    ensures { IsDelivered status text.now (output_by K.written K.faults out.old out.new) result }
 {
-    let status = match write_whole(out, text(answer)) {
-        Ok(()) => status(answer),
+    let status = match write_whole(out, text) {
+        Ok(()) => status,
         Err(_) => Status::WriteFailed,
     };
     status.code()
+}
+
+/// Writes the answer's text, and gives the number of its status, or of that of a failed write.
+pub fn deliver<K: Sink>(answer: &Result<Conclusion, Refusal>, out: &mut K) -> u8
+    ensures { IsDelivered (status_of answer.now) (text_of answer.now)
+        (output_by K.written K.faults out.old out.new) result }
+{
+    deliver_text(status(answer), text(answer), out)
 }

@@ -5,6 +5,7 @@
 mod answers;
 mod top;
 
+pub use answers::{deliver, deliver_text};
 pub use cpa_top_bench::bench_text;
 pub use cpa_top_jobs::{MAX_REPORT, Role, Status};
 pub use top::run;

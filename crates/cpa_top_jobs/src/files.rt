@@ -26,7 +26,7 @@ use cpa_outside::{Inputs, ReadFault};
 use std::alloc::Global;
 
 /// The bytes of a file, of which there may be as many as its role allows.
-pub(crate) fn read_file<I: Inputs>(
+pub fn read_file<I: Inputs>(
     alloc: Global,
     inputs: &mut I,
     role: Role,
@@ -78,7 +78,7 @@ fn numbers_of(alloc: Global, bytes: &[u8]) -> Result<Vec<i128>, Refusal>
 }
 
 /// The program that the file of a name stands for in the data model.
-pub(crate) fn take_program<I: Inputs>(
+pub fn take_program<I: Inputs>(
     alloc: Global,
     inputs: &mut I,
     name: &str,

@@ -18,9 +18,10 @@ mod verify_job;
 
 pub use bench_job::bench;
 pub use conclusion::Conclusion;
+pub use files::{read_file, take_program};
 pub use recheck_job::recheck;
 pub use refusal::Refusal;
 pub use replay_job::replay;
 pub use role::{MAX_REPORT, Role};
 pub use status::Status;
-pub use verify_job::verify;
+pub use verify_job::{names_of, verdict_status, verify};

@@ -24,10 +24,7 @@ use cpa_top_verdict::tell;
 use std::alloc::{AllocError, Global};
 
 /// The names of the handed analyses, in order.
-pub(crate) fn names_of<A: Analysis>(
-    alloc: Global,
-    analyses: &[A],
-) -> Result<Vec<String>, AllocError>
+pub fn names_of<A: Analysis>(alloc: Global, analyses: &[A]) -> Result<Vec<String>, AllocError>
     ensures { IfOk result (λ names. map string_bytes names.items
         ≡ names_of (map A.meaning analyses.now)) }
 {
@@ -39,7 +36,7 @@ pub(crate) fn names_of<A: Analysis>(
 }
 
 /// The status of a verdict.
-pub(crate) fn verdict_status(verdict: Verdict) -> Status
+pub fn verdict_status(verdict: Verdict) -> Status
     ensures { result ≡ verdict_status verdict }
 {
     match verdict {

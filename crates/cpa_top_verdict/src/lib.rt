@@ -10,5 +10,5 @@ mod telling;
 
 pub use analysing::answer_on;
 pub use laws::{false_calls_the_error, picks_are_places, true_is_safe};
-pub use reporting::Told;
+pub use reporting::{Told, told_of};
 pub use telling::tell;

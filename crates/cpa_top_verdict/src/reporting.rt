@@ -55,7 +55,7 @@ fn printed(alloc: Global, report: &Report) -> Result<Told, AllocError>
 }
 
 /// The verdict of an answer, and the text of its report.
-pub(crate) fn told_of(
+pub fn told_of(
     alloc: Global,
     program: &Program,
     cfa: &Cfa,
