@@ -26,10 +26,9 @@ use Rattle.c_core_checked.specs.Sound.{Sound}
 use Rattle.c_core_laws.specs.Jumps.{Jumps, function_jumps}
 use Rattle.c_core_laws.specs.lemmas.Faults.{NoFaults, none_left, none_right, no_fault}
 use Rattle.c_core_laws.specs.lemmas.SameWalk.{same_walk}
-use Rattle.c_core_laws.proofs.LabelCounts.{Keeps, keeps_still, keeps_then, Stands, BelowSome}
-use Rattle.c_core_laws.proofs.LabelCounts.{Quiet, quiet_still, quiet_then}
-use Rattle.c_core_laws.proofs.JumpFits.{Clean, clean_right}
-use Rattle.c_core_laws.proofs.JumpsTyped.{items_fit, all_jumped}
+use Rattle.c_core_laws.proofs.JumpsTyped.{Clean, clean_right, Keeps, keeps_still, keeps_then}
+use Rattle.c_core_laws.proofs.JumpsTyped.{items_fit, all_jumped, Stands, BelowSome}
+use Rattle.c_core_laws.proofs.JumpsTyped.{Quiet, quiet_still, quiet_then}
 use Rattle.cpa_ints.specs.declared.data_model.DataModel.{DataModel}
 
 -- every goto names one of the labels, and nothing is loose

@@ -43,8 +43,7 @@ use Rattle.c_core_laws.specs.lemmas.SameWalk.{grown_of, open_grown_item, open_gr
 use Rattle.c_core_laws.proofs.LabelBlocks.{labelled_in, open_item, open_statement}
 use Rattle.c_core_laws.proofs.JumpsTyped.{labels_in, open_labels}
 use Rattle.c_core_laws.proofs.JumpsTyped.{open_labels_item, items_typed, flat_items}
-use Rattle.c_core_laws.proofs.JumpsTyped.{item_jumped, statement_jumped}
-use Rattle.c_core_laws.proofs.LabelCounts.{quiet_start}
+use Rattle.c_core_laws.proofs.JumpsTyped.{item_jumped, statement_jumped, quiet_start}
 use Rattle.c_core_laws.proofs.FunctionsJump.{quiet_receiving}
 use Rattle.cpa_ints.specs.declared.data_model.DataModel.{DataModel}
 

@@ -13,12 +13,9 @@ pub mod FramesThere
 pub mod Small
 pub mod MainBody
 pub mod StartsFit
-pub mod LabelCounts
-pub mod JumpFits
 pub mod JumpsTyped
 pub mod FunctionsJump
 pub mod LabelNumbers
-pub mod Woven
 pub mod LabelNames
 pub mod JumpsSound
 pub mod StartsInRange
