@@ -45,17 +45,18 @@ fn push_asked(
         return Err(RowFault::Unreadable);
     }
     out.push_str(" = ")?;
+    let before = predicate.spent();
     push_called(alloc, out, predicate, &cfa, &setting.precision, question)?;
-    Ok(push_spent(out, predicate, question.call)?)
+    let all_decided = predicate.spent() == before;
+    Ok(push_decided(out, all_decided, question.call)?)
 }
 
-/// Behind the answer to `transfer` how many questions were not decided so far.
-fn push_spent(out: &mut String, predicate: &Predicate, call: Call) -> Result<(), AllocError> {
-    match call {
-        Call::Transfer { .. } => {
-            let spent = predicate.spent();
-            write!(out, ", spent {spent}")
-        }
+/// Behind the answer to `transfer` whether all that it asked was decided. How many questions were
+/// not is left free: an analysis may ask as few as it likes.
+fn push_decided(out: &mut String, all_decided: bool, call: Call) -> Result<(), AllocError> {
+    match (call, all_decided) {
+        (Call::Transfer { .. }, true) => out.push_str(", decided"),
+        (Call::Transfer { .. }, false) => out.push_str(", undecided"),
         _ => Ok(()),
     }
 }

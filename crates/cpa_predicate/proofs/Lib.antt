@@ -1,5 +1,6 @@
 pub mod StepLemmas
 pub mod StandingLemmas
+pub mod BeforeLemmas
 pub mod LeadingLemmas
 pub mod RestingLemmas
 pub mod NearLemmas

@@ -39,7 +39,7 @@ set_other (x ∷ vs) (suc k) zero v differs = refl
 set_other (x ∷ vs) (suc k) (suc j) v differs = set_other vs k j v (λ e. differs (ap suc e))
 
 -- a place where there is something
-inside : {X : Type 0} (xs : List X) (k : ℕ) (x : X) → slice_get xs k ≡ Some x → k < length xs
+pub inside : {X : Type 0} (xs : List X) (k : ℕ) (x : X) → slice_get xs k ≡ Some x → k < length xs
 inside [] k x at = absurd (cc)
 inside (y ∷ xs) zero x at = omega arith
 inside (y ∷ xs) (suc k) x at = let less = inside xs k x at in omega (arith, less)
@@ -101,7 +101,7 @@ module _ (cfa : Cfa) (a : IsAutomaton cfa) (p : Expr) where
           (subst (λ b. HasTruth store q b) (same_Some own holds one) has)
       by false other one = absurd (cc)
 
-  stands : (store : List ℤ) (holds : Bool) (facts : List Fact)
+  pub stands : (store : List ℤ) (holds : Bool) (facts : List Fact)
       → first_said p facts ≡ Some holds
       → AllByRecursion (StoreFactHolds store) (filter is_truth facts) → HasTruth store p holds
   stands store holds [] is all = absurd (cc)

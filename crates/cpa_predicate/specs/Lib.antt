@@ -3,6 +3,7 @@ pub mod Questions
 pub mod Transfer
 pub mod Known
 pub mod Standing
+pub mod Before
 pub mod Leading
 pub mod Resting
 pub mod Refining

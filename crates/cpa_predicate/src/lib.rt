@@ -4,8 +4,10 @@
 #![tactic(auto)]
 
 mod asking;
+mod before;
 mod findings;
 mod fingerprints;
+mod guessing;
 mod known;
 mod leading;
 mod nearness;

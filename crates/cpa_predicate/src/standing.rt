@@ -49,7 +49,7 @@ fn said(fact: &Fact, p: &Expr) -> Option<bool>
 }
 
 /// The first truth that the element says of the predicate.
-fn first_said(elem: &Elem, p: &Expr) -> Option<bool>
+pub(crate) fn first_said(elem: &Elem, p: &Expr) -> Option<bool>
     ensures { result ≡ first_said p.now elem.now.facts }
 {
     for fact in &elem.facts {

@@ -17,6 +17,8 @@ ghost use Rattle.cpa_predicate.specs.Transfer.{IsTruthAfter, AreTruths, IsOutcom
 ghost use Rattle.cpa_predicate.specs.Transfer.{IsCartesian, fact_of, facts_of, elems_of};
 
 use crate::asking::{Asker, Budgets, found_truth, sure_truth};
+use crate::before::truth_before;
+use crate::guessing::guesses;
 use crate::known::Outcome;
 use crate::leading::always_leads_on;
 use crate::nearness::{near_cells, near_truths};
@@ -205,9 +207,48 @@ fn asked_truth(
     }
 }
 
+/// The truth that the predicate has wherever the edge leads. One that is refuted by a store to
+/// which the edge leads is not asked for.
+fn unsettled_truth(
+    alloc: Global,
+    asker: &mut Asker,
+    cfa: &Cfa,
+    number: u32,
+    edge: &Edge,
+    elem: &Elem,
+    step: &EdgeForm,
+    behind: &[Store],
+    p: &Expr,
+) -> Result<Option<bool>, AllocError>
+    requires number { number < length cfa.now.edges }
+    requires at { slice_get cfa.now.edges number ≡ Some edge.now }
+    requires step { IsStep cfa.now elem.now edge.now step.now }
+    requires behind { AllByRecursion (IsAfter cfa.now elem.now edge.now) behind.now }
+    requires predicate { IsExpr cfa.now.cells p.now }
+    ensures truth { IfOk result (IsTruthAfter
+        (IsOpen asker.old asker.new cfa.now elem.now edge.now)
+        cfa.now elem.now edge.now p.now) }
+    ensures spends { Spends asker.old asker.new
+        (SomeBeyond asker.old cfa.now elem.now edge.now (p.now ∷ [])) }
+{
+    forms_are_runs();
+    failing_is_not_holding();
+    steps_take_inputs();
+    let lacks_true = some_lacks(p, true, behind);
+    let lacks_false = some_lacks(p, false, behind);
+    if lacks_true && lacks_false {
+        return found_truth(alloc, asker, step, p, lacks_true, lacks_false);
+    }
+    let refuted = Refuted {
+        is_true: lacks_true,
+        is_false: lacks_false,
+    };
+    asked_truth(alloc, asker, cfa, number, edge, elem, step, p, refuted)
+}
+
 /// The truth that the predicate has wherever the edge leads. One that stands in the element is not
-/// asked for, where the edge writes no cell that the predicate may read, and neither is one that is
-/// refuted by a store to which the edge leads.
+/// asked for, where the edge writes no cell that the predicate may read, and neither is one that
+/// the element says of what the predicate is before the edge.
 fn truth_after(
     alloc: Global,
     asker: &mut Asker,
@@ -237,16 +278,11 @@ fn truth_after(
     match standing_truth(elem, p, &edge.act) {
         Some(holds) => Ok(Some(holds)),
         None => {
-            let lacks_true = some_lacks(p, true, behind);
-            let lacks_false = some_lacks(p, false, behind);
-            if lacks_true && lacks_false {
-                return found_truth(alloc, asker, step, p, lacks_true, lacks_false);
+            let before = truth_before(alloc, elem, &edge.act, p)?;
+            match before {
+                Some(holds) => Ok(Some(holds)),
+                None => unsettled_truth(alloc, asker, cfa, number, edge, elem, step, behind, p),
             }
-            let refuted = Refuted {
-                is_true: lacks_true,
-                is_false: lacks_false,
-            };
-            asked_truth(alloc, asker, cfa, number, edge, elem, step, p, refuted)
         }
     }
 }
@@ -317,6 +353,26 @@ fn or_new_ones(
     }
 }
 
+/// The stores to which the edge leads. Where none was known, one is guessed.
+fn or_guessed(
+    alloc: Global,
+    cfa: &Cfa,
+    edge: &Edge,
+    elem: &Elem,
+    stores: Vec<Store>,
+) -> Result<Vec<Store>, AllocError>
+    requires { AllByRecursion (IsAfter cfa.now elem.now edge.now) stores.items }
+    ensures { IfOk result (λ found.
+        AllByRecursion (IsAfter cfa.now elem.now edge.now) found.items) }
+{
+    if stores.is_empty() {
+        let guesses = guesses(alloc, cfa, &edge.act)?;
+        stores_behind(alloc, cfa, edge, elem, guesses.as_slice(), 1)
+    } else {
+        Ok(stores)
+    }
+}
+
 /// What is found of the step along the edge.
 fn outcome_of(
     alloc: Global,
@@ -340,7 +396,7 @@ fn outcome_of(
     forms_are_runs();
     steps_take_inputs();
     let along = cfa.edge(edge);
-    let stores = stores_behind(
+    let kept = stores_behind(
         alloc,
         cfa,
         along,
@@ -348,6 +404,7 @@ fn outcome_of(
         asker.stores(),
         stores_wanted(preds),
     )?;
+    let stores = or_guessed(alloc, cfa, along, elem, kept)?;
     let behind = stores.as_slice();
     let settled = is_settled(preds, behind);
     if settled {
