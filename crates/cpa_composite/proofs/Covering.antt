@@ -1,6 +1,6 @@
 -- Every successor of a state of a row lies in some row: it lies in some element of each list, so in
 -- some choice, which strengthening keeps.
-use Rattle.std.proofs.Common.{suc}
+use Rattle.std.proofs.Common.{suc, ◌<◌}
 use Rattle.std.proofs.Common.{◌≡◌, ℕ, ◌+◌, List, [], ◌∷◌, ◌++◌, length, map, Option, Some, None}
 use Rattle.std.proofs.Common.{IsSomeAnd, refl, sym, ap, ◌∙◌, subst, inl, inr, arith}
 use Rattle.std.specs.Prelude.{⊤}
@@ -18,7 +18,8 @@ use Rattle.cpa_iface.specs.declared.precisions.Precision.{Precision}
 use Rattle.cpa_iface.specs.Laws.{SomeHolds}
 use Rattle.cpa_iface.specs.Meanings.{IsShaped, AreShaped}
 use Rattle.cpa_composite.specs.Components.{Component, AreElems}
-use Rattle.cpa_composite.specs.Laws.{EachTransfer, choices, Strengthens, EachStrengthened}
+use Rattle.cpa_composite.specs.Laws.{AreAsked, EachTransfer, choices, Strengthens}
+use Rattle.cpa_composite.specs.Laws.{EachStrengthened}
 use Rattle.cpa_composite.specs.Laws.{SuccessorRows}
 use Rattle.cpa_composite.proofs.Placed.{all_both}
 
@@ -43,8 +44,8 @@ later_transfer cfa edge c cs e es p ps list lists each =
 pub lists_hold : (cfa : Cfa) (edge : ℕ) (g : Edge) (s t : State)
     → slice_get cfa.edges edge ≡ Some g → StepsAlong cfa g s t → (cs : List Component)
     (es : List Elem) (ps : List Precision) (lists : List (List Elem)) → length es ≡ length cs
-    → length ps ≡ length cs → length lists ≡ length cs → EachTransfer cfa edge cs es ps lists
-    → LiesIn s es → SomeOfEach t lists
+    → length ps ≡ length cs → length lists < suc (length cs)
+    → EachTransfer cfa edge cs es ps lists → LiesIn s es → SomeOfEach t lists
 lists_hold cfa edge g s t at step cs es ps [] a b d each lies = tt
 lists_hold cfa edge g s t at step [] es ps (list ∷ lists) a b d each lies = absurd (omega arith)
 lists_hold cfa edge g s t at step (c ∷ cs) [] ps (list ∷ lists) a b d each lies = absurd (omega
@@ -185,8 +186,8 @@ choices_shaped cfa (list ∷ lists) h =
 
 pub lists_shaped : (cfa : Cfa) (edge : ℕ) (cs : List Component) (es : List Elem)
     (ps : List Precision) (lists : List (List Elem)) → length es ≡ length cs
-    → length ps ≡ length cs → length lists ≡ length cs → EachTransfer cfa edge cs es ps lists
-    → AllByRecursion (AreShaped cfa) lists
+    → length ps ≡ length cs → length lists < suc (length cs)
+    → EachTransfer cfa edge cs es ps lists → AllByRecursion (AreShaped cfa) lists
 lists_shaped cfa edge cs es ps [] a b d each = tt
 lists_shaped cfa edge [] es ps (list ∷ lists) a b d each = absurd (omega arith)
 lists_shaped cfa edge (c ∷ cs) [] ps (list ∷ lists) a b d each = absurd (omega arith)
@@ -197,10 +198,16 @@ lists_shaped cfa edge (c ∷ cs) (e ∷ es) (p ∷ ps) (list ∷ lists) a b d ea
       (later_transfer cfa edge c cs e es p ps list lists each),
 )
 
+-- no more are asked than there are
+pub at_most : (many : ℕ) (lists : List (List Elem)) → AreAsked many lists
+    → length lists < suc many
+at_most many lists (inl all) = omega (arith, all)
+at_most many lists (inr some) = omega (arith, some.0)
+
 -- the whole of `successors`
 pub successor_rows : (cs : List Component) (cfa : Cfa) (edge : ℕ) (es : List Elem)
     (ps : List Precision) (lists rows : List (List Elem)) → length es ≡ length cs
-    → length ps ≡ length cs → length lists ≡ length cs → EachTransfer cfa edge cs es ps lists
+    → length ps ≡ length cs → AreAsked (length cs) lists → EachTransfer cfa edge cs es ps lists
     → EachStrengthened cfa cs ps (choices lists) rows → SuccessorRows cs cfa edge es ps rows
 successor_rows cs cfa edge es ps lists rows a b d each made =
     record {
@@ -208,9 +215,10 @@ successor_rows cs cfa edge es ps lists rows a b d each made =
       covers = λ g s t at lies step.
           rows_hold cfa t step.after cs ps (choices lists) rows
           (choice_holds t lists
-          (lists_hold cfa edge g s t at step cs es ps lists a b d each lies)) made;
+          (lists_hold cfa edge g s t at step cs es ps lists a b (at_most (length cs) lists d) each
+          lies)) made;
       lists = lists;
-      size = d;
+      asked = d;
       each = each;
       strengthened = made;
     }

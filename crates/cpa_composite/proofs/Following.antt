@@ -1,6 +1,6 @@
 -- Rows of successors follow an exact pin of the point or of the stack: each choice has it, and
 -- strengthening keeps it.
-use Rattle.std.proofs.Common.{zero, suc}
+use Rattle.std.proofs.Common.{zero, suc, ◌≤◌, ⊎_elim}
 use Rattle.std.proofs.Common.{◌≡◌, ℕ, ◌+◌, List, [], ◌∷◌, ◌++◌, length, map, Some}
 use Rattle.std.proofs.Common.{None, refl, sym, ap, ◌∙◌, subst, inl, inr, arith}
 use Rattle.std.specs.List.{slice_get, flat_map}
@@ -154,6 +154,13 @@ pub none_of : (cfa : Cfa) (cs : List Component) (ps : List Precision)
 none_of cfa cs ps [] rows empty made = made
 none_of cfa cs ps (choice ∷ chosen) rows empty made = absurd (cc)
 
+-- where an analysis gives none, there is no row
+pub no_rows : (cs : List Component) (cfa : Cfa) (edge : ℕ) (es : List Elem) (ps : List Precision)
+    (rows : List (List Elem)) → (h : SuccessorRows cs cfa edge es ps rows) → (j : ℕ)
+    → slice_get h.lists j ≡ Some [] → rows ≡ []
+no_rows cs cfa edge es ps rows h j none =
+    none_of cfa cs ps (choices h.lists) rows (choices_none h.lists j none) h.strengthened
+
 -- the law
 pub follows : (cs : List Component) (cfa : Cfa) (edge : ℕ) (es : List Elem) (ps : List Precision)
     (rows : List (List Elem)) → SuccessorRows cs cfa edge es ps rows → (i : ℕ) (c : Component)
@@ -161,8 +168,10 @@ pub follows : (cs : List Component) (cfa : Cfa) (edge : ℕ) (es : List Elem) (p
     (s : State) → slice_get cfa.edges edge ≡ Some g → IsStateOf cfa s
     → e ≡ pin_of c.meaning.part s → FollowPart c.meaning.part cfa g s i rows
 follows cs cfa edge es ps rows h i c e p stands control g s at state pinned =
+    ⊎_elim
+    (λ (all : length h.lists ≡ length cs).
     let inside = slice_get_within cs i c stands.component in
-    let list = there_is h.lists i (omega (arith, inside, h.size)) in
+    let list = there_is h.lists i (omega (arith, inside, all)) in
     let steps : PinsStep c.meaning.part cfa g s list.0 =
     (h.each i c e p list.0 stands list.1).exact (binds c.meaning.part cfa p control) g s at
     (settled c.meaning.part g control) state pinned in
@@ -176,4 +185,10 @@ follows cs cfa edge es ps rows h i c e p stands control g s at state pinned =
           none_of cfa cs ps (choices h.lists) rows
           (choices_none h.lists i (list.1 ∙ ap (λ (l : List Elem). Some l) (steps.stuck none)))
           h.strengthened;
-    }
+    })
+    (λ (some : (length h.lists ≤ length cs)
+    × ((j : ℕ) × (slice_get h.lists j ≡ Some []))).
+    subst (λ (rs : List (List Elem)). FollowPart c.meaning.part cfa g s i rs)
+    (sym (no_rows cs cfa edge es ps rows h some.1.0 some.1.1))
+    (record { step = λ t step. tt; stuck = λ none. refl }))
+    h.asked

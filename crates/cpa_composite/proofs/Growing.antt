@@ -1,8 +1,9 @@
 -- Rows that grow: where the items so far keep the laws of their calls, and the next one does, all
 -- of the longer row do.
 use Rattle.std.proofs.Common.{◌≡◌, ℕ, List, [], ◌∷◌, ◌++◌, length, Some}
-use Rattle.std.proofs.Common.{sym, ◌∙◌, subst, arith}
+use Rattle.std.proofs.Common.{◌<◌, sym, ◌∙◌, subst, inr, arith}
 use Rattle.std.specs.List.{slice_get}
+use Rattle.std.proofs.lemmas.List.{length-append}
 use Rattle.std.proofs.lemmas.Option.{same_Some, slice_get_within}
 use Rattle.cpa_model.specs.declared.facts.Elem.{Elem}
 use Rattle.cpa_model.specs.declared.automaton.Cfa.{Cfa}
@@ -16,8 +17,8 @@ use Rattle.cpa_iface.specs.Laws.{InitialLaws, FirstPrecisionLaws, TransferLaws}
 use Rattle.cpa_iface.specs.Laws.{MergeLaws, AdjustLaws, RefineLaws}
 use Rattle.cpa_iface.specs.Meanings.{Meaning}
 use Rattle.cpa_composite.specs.Components.{Component, picked, IsPicked, ArePlaces, StandsAt}
-use Rattle.cpa_composite.specs.Laws.{EachInitial, EachTransfer, EachMerged, EachAdjusted}
-use Rattle.cpa_composite.specs.Laws.{EachRefined}
+use Rattle.cpa_composite.specs.Laws.{EachInitial, AreAsked, EachTransfer, EachMerged}
+use Rattle.cpa_composite.specs.Laws.{EachAdjusted, EachRefined}
 use Rattle.cpa_composite.proofs.Placed.{front_at, last_at, grows}
 use Rattle.cpa_composite.proofs.Picking.{picked_at}
 
@@ -67,6 +68,14 @@ transfer_more cfa edge ms now picks place pick es ps e p lists list here elem pr
     (stood ms now picks place pick es ps e p (λ c d q. TransferLaws c.meaning cfa edge d q list)
     here elem precision laws))
     i l is c d q stands
+
+-- one that gives no element ends them
+pub asked_ended : (many : ℕ) (lists : List (List Elem)) (list : List Elem) → length lists < many
+    → length list ≡ 0 → AreAsked many (lists ++ list ∷ [])
+asked_ended many lists [] less none =
+    let size = length-append lists ([] ∷ []) in
+    inr (omega (arith, less, size), (length lists, last_at lists []))
+asked_ended many lists (e ∷ list) less none = absurd (omega (arith, none))
 
 pub merge_more : (cfa : Cfa) (ms now : List Meaning) (picks : List Pick) (place : ℕ) (pick : Pick)
     (new old : List Elem) (ps : List Precision) (e f : Elem) (p : Precision) (merged : List Elem)

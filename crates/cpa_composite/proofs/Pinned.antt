@@ -1,6 +1,6 @@
 -- Where each component is exact and the row is the pins of a state, the rows of successors are the
 -- pins of the next state.
-use Rattle.std.proofs.Common.{zero, suc}
+use Rattle.std.proofs.Common.{zero, suc, ◌≤◌}
 use Rattle.std.proofs.Common.{◌≡◌, ◌≢◌, ℕ, ◌+◌, List, [], ◌∷◌, ◌++◌, length, map, Option, Some}
 use Rattle.std.proofs.Common.{None, refl, sym, ap, ◌∙◌, subst, inl, inr, ⊎_elim, arith}
 use Rattle.std.specs.Prelude.{ℤ}
@@ -27,7 +27,7 @@ use Rattle.cpa_composite.specs.Laws.{choices, Strengthens, EachStrengthened, Suc
 use Rattle.cpa_composite.specs.Laws.{EachInitial, InitialRow, AdjustedRow}
 use Rattle.cpa_composite.proofs.Placed.{all_both, joined, no_more}
 use Rattle.cpa_composite_covers.specs.lemmas.PickLaws.{there_is}
-use Rattle.cpa_composite.proofs.Following.{not_store, none_of, choices_none}
+use Rattle.cpa_composite.proofs.Following.{not_store, none_of, no_rows}
 
 -- a pin of a state holds of it
 equals_hold : (values all : List ℤ) (cell : ℕ) (s : State) → s.store.values ≡ all
@@ -211,19 +211,14 @@ transfer_pins : (cs : List Component) (cfa : Cfa) (edge : ℕ) (ps : List Precis
     (rows : List (List Elem)) (s : State) → length ps ≡ length cs → BindAll cfa cs ps → (g : Edge)
     → slice_get cfa.edges edge ≡ Some g → IsSettledBy Store g.act → IsStateOf cfa s
     → (laws : SuccessorRows cs cfa edge (pins cs s) ps rows) → (i : ℕ) (c : Component)
-    → slice_get cs i ≡ Some c
-    → (list : List Elem) × (slice_get laws.lists i ≡ Some list)
-    × PinsStep c.meaning.part cfa g s list
-transfer_pins cs cfa edge ps rows s size binds g at settled state laws i c is =
+    (list : List Elem) → slice_get cs i ≡ Some c → slice_get laws.lists i ≡ Some list
+    → PinsStep c.meaning.part cfa g s list
+transfer_pins cs cfa edge ps rows s size binds g at settled state laws i c list is given =
     let inside = slice_get_within cs i c is in
-    let list = there_is laws.lists i (omega (arith, inside, laws.size)) in
-    let p = there_is ps i (omega (arith, inside, size)) in (
-      list.0,
-      list.1,
-      (laws.each i c (pin_of c.meaning.part s) p.0 list.0
-          (record { component = is; elem = pin_at cs s i c is; precision = p.1 }) list.1).exact
-          (binds i c p.0 is p.1) g s at (settled_by c.meaning.part g settled) state refl,
-    )
+    let p = there_is ps i (omega (arith, inside, size)) in
+    (laws.each i c (pin_of c.meaning.part s) p.0 list
+    (record { component = is; elem = pin_at cs s i c is; precision = p.1 }) given).exact
+    (binds i c p.0 is p.1) g s at (settled_by c.meaning.part g settled) state refl
 
 one_row : (cfa : Cfa) (cs : List Component) (ps : List Precision) (t : State)
     (chosen rows : List (List Elem)) → chosen ≡ pins cs t ∷ []
@@ -258,14 +253,26 @@ pub pins_step : (cs : List Component) (cfa : Cfa) (edge : ℕ) (ps : List Precis
     → slice_get cfa.edges edge ≡ Some g → IsSettledBy Store g.act → StepsAlong cfa g s t
     → rows ≡ pins cs t ∷ []
 pins_step cs cfa edge ps rows g s t exact binds size laws at settled step =
+    let stepped : (i : ℕ) (c : Component) (list : List Elem) → slice_get cs i ≡ Some c
+    → slice_get laws.lists i ≡ Some list → list ≡ pin_of c.meaning.part t ∷ [] =
+    λ i c list is given.
+    (transfer_pins cs cfa edge ps rows s size binds g at settled step.before laws i c list is
+    given).step t (steps_part c.meaning.part cfa g s t step) in
+    ⊎_elim
+    (λ (all : length laws.lists ≡ length cs).
     one_row cfa cs ps t (choices laws.lists) rows
-    (choices_pin cs laws.lists t laws.size
+    (choices_pin cs laws.lists t all
     (λ i c is.
-    let list = transfer_pins cs cfa edge ps rows s size binds g at settled step.before laws i c
-    is in
-    list.1 ∙ ap (λ (l : List Elem). Some l)
-    (list.2.step t (steps_part c.meaning.part cfa g s t step))))
-    laws.strengthened step.after exact binds
+    let list = there_is laws.lists i (omega (arith, slice_get_within cs i c is, all)) in
+    list.1 ∙ ap (λ (l : List Elem). Some l) (stepped i c list.0 is list.1)))
+    laws.strengthened step.after exact binds)
+    (λ (some : (length laws.lists ≤ length cs)
+    × ((j : ℕ) × (slice_get laws.lists j ≡ Some []))).
+    let j = some.1.0 in
+    let c = there_is cs j (omega (arith, slice_get_within laws.lists j [] some.1.1, some.0)) in
+    let wrong : [] ≡ pin_of c.0.meaning.part t ∷ [] = stepped j c.0 [] c.1 some.1.1 in
+    absurd (cc))
+    laws.asked
 
 pub pins_stuck : (cs : List Component) (cfa : Cfa) (edge : ℕ) (ps : List Precision)
     (rows : List (List Elem)) (g : Edge) (s : State) → BindAll cfa cs ps
@@ -275,11 +282,17 @@ pub pins_stuck : (cs : List Component) (cfa : Cfa) (edge : ℕ) (ps : List Preci
     → ((t : State) → StepsPart c.meaning.part cfa g s t → ⊥)
     → rows ≡ []
 pins_stuck cs cfa edge ps rows g s binds size laws at settled state i c is none =
-    let list = transfer_pins cs cfa edge ps rows s size binds g at settled state laws i c is in
-    none_of cfa cs ps (choices laws.lists) rows
-    (choices_none laws.lists i
-    (list.1 ∙ ap (λ (l : List Elem). Some l) (list.2.stuck none)))
-    laws.strengthened
+    ⊎_elim
+    (λ (all : length laws.lists ≡ length cs).
+    let list = there_is laws.lists i (omega (arith, slice_get_within cs i c is, all)) in
+    let steps = transfer_pins cs cfa edge ps rows s size binds g at settled state laws i c list.0
+    is list.1 in
+    no_rows cs cfa edge (pins cs s) ps rows laws i
+    (list.1 ∙ ap (λ (l : List Elem). Some l) (steps.stuck none)))
+    (λ (some : (length laws.lists ≤ length cs)
+    × ((j : ℕ) × (slice_get laws.lists j ≡ Some []))).
+    no_rows cs cfa edge (pins cs s) ps rows laws some.1.0 some.1.1)
+    laws.asked
 
 -- the row to begin with
 some_part : (which : Part) → IsControl which → which ≢ Nothing

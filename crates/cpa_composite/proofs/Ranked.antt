@@ -1,5 +1,5 @@
 -- Where heights do not depend on precisions, the ranks of all rows stay within them.
-use Rattle.std.proofs.Common.{zero, suc}
+use Rattle.std.proofs.Common.{zero, suc, ◌<◌, ⊎_elim}
 use Rattle.std.proofs.Common.{◌≡◌, ℕ, ◌≤◌, List, [], ◌∷◌, ◌++◌, length, map, Some, None, refl}
 use Rattle.std.proofs.Common.{sym}
 use Rattle.std.proofs.Common.{◌∙◌, subst, inl, inr, arith}
@@ -20,6 +20,7 @@ use Rattle.cpa_composite.specs.Laws.{SuccessorRows, MergedRow, AdjustedRow}
 use Rattle.cpa_composite.specs.Ranks.{coarsest, rank_by, row_rank, row_height, HasFixedHeight}
 use Rattle.cpa_composite.specs.Ranks.{HaveFixedHeights, IsLow, IsRanked}
 use Rattle.cpa_composite.proofs.Placed.{all_both, each_at, joined, no_more}
+use Rattle.cpa_composite.proofs.Following.{no_rows}
 use Rattle.cpa_composite_covers.specs.lemmas.PickLaws.{there_is}
 
 -- a row is ranked where each item is low at its place
@@ -169,8 +170,10 @@ pub successors_ranked : (cs : List Component) (cfa : Cfa) (edge : ℕ) (es : Lis
     → length es ≡ length cs → ArePrecisions cfa (length cs) ps → IsRanked cfa cs es
     → SuccessorRows cs cfa edge es ps rows → AllByRecursion (IsRanked cfa cs) rows
 successors_ranked cs cfa edge es ps rows fixed many are ranked made =
+    ⊎_elim
+    (λ (all : length made.lists ≡ length cs).
     rows_ranked cfa cs ps (choices made.lists) rows made.strengthened fixed are.each
-    (choices_ranked cfa cs made.lists made.size
+    (choices_ranked cfa cs made.lists all
     (all_by cfa cs made.lists (λ i c list at at_list.
     let inside = slice_get_within cs i c at in
     let e = there_is es i (omega (arith, inside, many)) in
@@ -180,7 +183,12 @@ successors_ranked cs cfa edge es ps rows fixed many are ranked made =
     all_low cfa c list p.0 one is
     (λ widen. (made.each i c e.0 p.0 list
     (record { component = at; elem = e.1; precision = p.1 }) at_list).bounded
-    (bounded cfa c e.0 p.0 one is widen (ranked_at cfa cs es ranked i c e.0 at e.1))))))
+    (bounded cfa c e.0 p.0 one is widen (ranked_at cfa cs es ranked i c e.0 at e.1)))))))
+    (λ (some : (length made.lists ≤ length cs)
+    × ((j : ℕ) × (slice_get made.lists j ≡ Some []))).
+    subst (AllByRecursion (IsRanked cfa cs))
+    (sym (no_rows cs cfa edge es ps rows made some.1.0 some.1.1)) tt)
+    made.asked
 
 -- of the entries that are there
 bounded_at : (cfa : Cfa) (cs : List Component) (i : ℕ) (c : Component) (reached : List Entry)

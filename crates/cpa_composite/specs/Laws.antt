@@ -1,7 +1,7 @@
 -- The laws of an interface of analyses, lifted to rows of elements: one record a call of a
 -- composite (CAV 2007, section 4, and ASE 2008; the refinement, exactness and widening laws are
 -- this project's own). A row holds of a state where each item does.
-use Rattle.std.specs.Prelude.{◌≡◌, ◌≢◌, ℕ, IsTrue, List, [], ◌∷◌, ◌++◌, length, map, slice_get}
+use Rattle.std.specs.Prelude.{◌≡◌, ◌≢◌, ◌≤◌, ℕ, IsTrue, List, [], ◌∷◌, ◌++◌, length, map, slice_get}
 use Rattle.std.specs.Prelude.{Option, Some, None, IfSome, ◌⊎◌, Bool, false, ◌||◌, nat_lt}
 use Rattle.std.specs.List.{AllByRecursion, Contains, flat_map}
 use Rattle.cpa_model.specs.declared.facts.Elem.{Elem}
@@ -43,6 +43,13 @@ EachTransfer cfa edge cs es ps lists =
     → StandsAt cs es ps i c e p → slice_get lists i ≡ Some list
     → TransferLaws c.meaning cfa edge e p list
 
+-- All analyses were asked, so many there are; or, in their order, no more than one that gives no
+-- element: there is no choice then, whatever those after it would give.
+abbrev pub AreAsked : ℕ → List (List Elem) → Type 0
+AreAsked many lists =
+    (length lists ≡ many)
+    ⊎ ((length lists ≤ many) × ((i : ℕ) × (slice_get lists i ≡ Some [])))
+
 -- every choice of one element from each list, the last one varying fastest
 abbrev pub choices : List (List Elem) → List (List Elem)
 choices [] = [] ∷ []
@@ -76,7 +83,7 @@ pub record SuccessorRows (cs : List Component) (cfa : Cfa) (edge : ℕ) (es : Li
   pub covers : (g : Edge) (s t : State) → slice_get cfa.edges edge ≡ Some g → LiesIn s es
       → StepsAlong cfa g s t → LiesInSome t rows
   pub lists : List (List Elem)
-  pub size : length lists ≡ length cs
+  pub asked : AreAsked (length cs) lists
   pub each : EachTransfer cfa edge cs es ps lists
   pub strengthened : EachStrengthened cfa cs ps (choices lists) rows
 

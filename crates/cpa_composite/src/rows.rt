@@ -1,5 +1,6 @@
-//! The calls of the picked analyses, one after the other. Each function asks every one of them; its
-//! clause is a relation of `specs/Laws.antt`, shown in `proofs/Growing.antt`.
+//! The calls of the picked analyses, one after the other. Each function asks every one of them, but
+//! `transfers`, which stops at one that gives nothing; its clause is a relation of `specs/Laws.antt`,
+//! shown in `proofs/Growing.antt`.
 
 ghost use Rattle.std.specs.Prelude.{◌≡◌, ◌<◌, length, map, IfOk};
 ghost use Rattle.std.specs.List.{AllByRecursion};
@@ -7,8 +8,8 @@ ghost use Rattle.cpa_model.specs.Automata.{IsAutomaton};
 ghost use Rattle.cpa_iface.specs.Meanings.{IsPathOf};
 ghost use Rattle.cpa_composite.specs.Components.{picked, ArePlaces, AreElems, ArePrecisions};
 ghost use Rattle.cpa_composite.specs.Components.{IsEntryOf};
-ghost use Rattle.cpa_composite.specs.Laws.{EachInitial, EachTransfer, EachMerged, EachAdjusted};
-ghost use Rattle.cpa_composite.specs.Laws.{EachRefined};
+ghost use Rattle.cpa_composite.specs.Laws.{EachInitial, AreAsked, EachTransfer, EachMerged};
+ghost use Rattle.cpa_composite.specs.Laws.{EachAdjusted, EachRefined};
 
 use crate::asking;
 use cpa_iface::{Analysis, Entry, Pick, Precision, Settings};
@@ -40,7 +41,7 @@ pub(crate) fn initial<A: Analysis>(
     Ok((elems, precisions))
 }
 
-/// The successors that each analysis gives.
+/// The successors that each analysis gives, up to the first that gives none: no choice is left then.
 pub(crate) fn transfers<A: Analysis>(
     handed: &mut Vec<A>,
     picks: &[Pick],
@@ -55,7 +56,8 @@ pub(crate) fn transfers<A: Analysis>(
     requires picks { ArePlaces (length handed.old.items) picks.now }
     requires elems { AreElems cfa.now (length picks.now) elems.now }
     requires precisions { ArePrecisions cfa.now (length picks.now) precisions.now }
-    ensures size { IfOk result (λ lists. length lists.items ≡ length picks.now) }
+    ensures asked { IfOk result (λ lists. AreAsked (length picks.now)
+        (map (λ list. list.items) lists.items)) }
     ensures each { IfOk result (λ lists. EachTransfer cfa.now edge
         (picked (map A.meaning handed.old.items) picks.now) elems.now precisions.now
         (map (λ list. list.items) lists.items)) }
@@ -66,7 +68,12 @@ pub(crate) fn transfers<A: Analysis>(
         let pick = &picks[place];
         let elem = &elems[place];
         let precision = &precisions[place];
-        lists.push(asking::transfer(handed, pick, alloc, cfa, edge, elem, precision)?)?;
+        let list = asking::transfer(handed, pick, alloc, cfa, edge, elem, precision)?;
+        let is_none = list.is_empty();
+        lists.push(list)?;
+        if is_none {
+            return Ok(lists);
+        }
     }
     Ok(lists)
 }
