@@ -17,16 +17,21 @@ class Run:
     megabytes: float
 
 
-def measured(words, seconds, output=subprocess.DEVNULL, megabytes=0, folder=None):
-    """Runs the words, for so many seconds by the clock at most, and within so many megabytes if not 0."""
+def measured(words, seconds, output=subprocess.DEVNULL, megabytes=0, folder=None, processor=0):
+    """Runs the words, for so many seconds by the clock at most.
+
+    And within so many megabytes and for so many whole processor seconds at most, if not 0.
+    """
     began = time.monotonic()
     child = subprocess.Popen(words, stdout=output, stderr=subprocess.DEVNULL, stdin=subprocess.DEVNULL,
                              start_new_session=True, cwd=folder)
-    if megabytes:
-        try:
+    try:
+        if megabytes:
             resource.prlimit(child.pid, resource.RLIMIT_AS, (megabytes << 20, megabytes << 20))
-        except ProcessLookupError:
-            pass
+        if processor:
+            resource.prlimit(child.pid, resource.RLIMIT_CPU, (processor, processor + 1))
+    except ProcessLookupError:
+        pass
     late, peak, found = False, 0, 0
     while not found:
         peak = max(peak, peak_of(child.pid))
@@ -42,8 +47,9 @@ def measured(words, seconds, output=subprocess.DEVNULL, megabytes=0, folder=None
     # Up to its exec a child counts the memory of this process as its own.
     if usage.ru_maxrss > resource.getrusage(resource.RUSAGE_SELF).ru_maxrss:
         peak = usage.ru_maxrss
-    processor = usage.ru_utime + usage.ru_stime
-    return Run(None if late else child.returncode, took, processor, peak / 1024)
+    late = late or child.returncode == -signal.SIGXCPU
+    spent = usage.ru_utime + usage.ru_stime
+    return Run(None if late else child.returncode, took, spent, peak / 1024)
 
 
 def peak_of(pid):
